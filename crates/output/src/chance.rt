@@ -1,4 +1,4 @@
-// The odds of a finding.
+// The odds of a circle of k threads.
 ghost use mathlib.Core.Path.{_≡_};
 ghost use Prim.Native.Nat.{_<_, _≤_, _*_};
 ghost use Rattle.output.specs.Odds.{factorial, oddsOf, rounded};
@@ -29,7 +29,7 @@ fn round(above: u64, below: u64) -> u32
 }
 
 // k! / (n * k ^ k) in ten thousandths, rounded down, for k from 2 to 64 and n from 1 to 8.
-// Past LAST that is less than a half, so 0.
+// Past LAST that is less than 1.
 pub fn odds(k: u32, n: u32) -> Result<u32, OutputCause>
     ensures { λ r. ⌜ r ≡ oddsOf k n ⌝ }
 {

@@ -2,6 +2,7 @@
 ghost use mathlib.Core.Path.{_≡_};
 ghost use Prim.Native.Nat.{_+_, _≤_};
 ghost use lib.ListN.{length};
+ghost use Rattle.std.specs.Vec.{made};
 ghost use Rattle.output.specs.Lines.{Puts, answer, memory-after, fault-text, layer-text};
 use crate::OutputCause;
 use crate::line::LINE_MEMORY;
@@ -26,6 +27,7 @@ fn put_layer(line: &mut [u8], at: usize, cause: &Cause) -> usize
 pub fn fault_line(fault: &Fault, line: &mut [u8]) -> Result<usize, OutputCause>
     ensures answer { λ r. ⌜ r ≡ answer (fault-text (now (fault .entry))) (now (line .entry)) ⌝ }
     ensures memory { λ _. ⌜ now (line .exit) ≡ memory-after (fault-text (now (fault .entry))) (now (line .entry)) ⌝ }
+    ensures within { λ r. ⌜ made r (λ n. n ≤ length (now (line .entry))) ⌝ }
 {
     if line.len() < LINE_MEMORY {
         return Err(OutputCause::Memory);

@@ -1,4 +1,4 @@
-// What is written about a recording: the odds of a finding, and lines of text in lent memory.
+// What is written about a recording: the odds of its circles, and lines of text in lent memory.
 mod cause;
 mod chance;
 mod fault;

@@ -5,6 +5,9 @@ mod line;
 mod number;
 
 pub use fault::LineFault;
+pub use fault::LineFaultDebug;
+pub use fault::LineFaultEq;
+pub use fault::LineFaultPartialEq;
 pub use fault::TextCause;
 pub use fault::TextCauseDebug;
 pub use fault::TextCauseEq;

@@ -10,5 +10,5 @@ returns c =
     rw (← c .number .ensures)
     (puts-more (c .put-labelled-at .ensures .text) (puts-more (c .put-labelled-at-2 .ensures .text)
     (puts-more (c .put-layer-at .ensures .text) (puts-more (c .put-labelled-at-3 .ensures .text) (c .put-end .ensures))))) in
-    let d = line-done _ _ _ _ _ (c .if-line-lt-LINE-MEMORY .left) (omega arith) p (c .zero-rest .ensures) in
-    record { answer = d .0; memory = d .1 }
+    let d = line-done _ (c .args .line .now) _ _ _ (omega arith) (omega arith) p (c .zero-rest .ensures) in
+    record { answer = d .0; memory = d .1; within = omega arith }

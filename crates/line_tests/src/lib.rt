@@ -1,0 +1,7 @@
+// Lines, files and printed lines by example.
+#[cfg(test)]
+mod files;
+#[cfg(test)]
+mod lines;
+#[cfg(test)]
+mod prints;
