@@ -18,14 +18,17 @@ abbrev pub counted-from : ℕ → List (List ℕ) → Result ℕ Fault
 counted-from n ls = andThen (events-from (n + 1) ls) (λ es. Ok (n + length es))
 
 -- the first of the lines is at fault
-pub counted-fault : (n : ℕ) (ls : List (List ℕ)) (l : List ℕ) (rest : List (List ℕ)) (f : Fault) → ls ≡ l ∷ rest → at-line (n + 1) (reading l) ≡ Err f → counted-from n ls ≡ Err f
+pub counted-fault : (n : ℕ) (ls : List (List ℕ)) (l : List ℕ) (rest : List (List ℕ)) (f : Fault) → ls ≡ l ∷ rest →
+    at-line (n + 1) (reading l) ≡ Err f → counted-from n ls ≡ Err f
 counted-fault n ls l rest f e g = ap (counted-from n) e ∙ rw g
 
 -- the first of the lines says an event
-pub counted-more : (n : ℕ) (ls : List (List ℕ)) (l : List ℕ) (rest : List (List ℕ)) (a : Event) → ls ≡ l ∷ rest → at-line (n + 1) (reading l) ≡ Ok a → counted-from n ls ≡ counted-from (n + 1) rest
+pub counted-more : (n : ℕ) (ls : List (List ℕ)) (l : List ℕ) (rest : List (List ℕ)) (a : Event) → ls ≡ l ∷ rest →
+    at-line (n + 1) (reading l) ≡ Ok a → counted-from n ls ≡ counted-from (n + 1) rest
 counted-more n ls l rest a e g = ap (counted-from n) e ∙ rw g (later (events-from (n + 1 + 1) rest))
   where
-    later : (r : Result (List Event) Fault) → andThen (andThen r (λ es. Ok (a ∷ es))) (λ es. Ok (n + length es)) ≡ andThen r (λ es. Ok (n + 1 + length es))
+    later : (r : Result (List Event) Fault) →
+        andThen (andThen r (λ es. Ok (a ∷ es))) (λ es. Ok (n + length es)) ≡ andThen r (λ es. Ok (n + 1 + length es))
     later (Ok es) = ap Ok (omega arith)
     later (Err f) = refl
 

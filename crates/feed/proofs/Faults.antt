@@ -31,8 +31,8 @@ line-split (b ∷ bs) h =
     ⊎-elim
     (λ e. rw (cond-true (eqb b 10) [] (b ∷ first-of bs) e, cond-true (eqb b 10) bs (later-of bs) e) (ap (λ x. x ∷ bs) (eqb-true b 10 e)))
     (λ e.
-        let more = rw (cond-false (eqb b 10) bs (later-of bs) e) at h in
-        rw (cond-false (eqb b 10) [] (b ∷ first-of bs) e, cond-false (eqb b 10) bs (later-of bs) e) (ap (λ t. b ∷ t) (line-split bs more)))
+    let more = rw (cond-false (eqb b 10) bs (later-of bs) e) at h in
+    rw (cond-false (eqb b 10) [] (b ∷ first-of bs) e, cond-false (eqb b 10) bs (later-of bs) e) (ap (λ t. b ∷ t) (line-split bs more)))
     (cases-bool (eqb b 10))
 
 some-line : (n : ℕ) (bs : List ℕ) (f : Fault) → events-from n (lines bs) ≡ Err f → 0 < length bs
@@ -61,7 +61,8 @@ stops (suc k) n (b ∷ bs) f h e = go (reading (first-of (b ∷ bs))) refl (stop
     whole : events-from n (first-of (b ∷ bs) ∷ lines (later-of (b ∷ bs))) ≡ Err f
     whole = ap (events-from n) (sym (lines-split (b ∷ bs) (omega arith))) ∙ e
 
-    on : (a : Event) → reading (first-of (b ∷ bs)) ≡ Ok a → Later → (r : Result (List Event) Fault) → events-from (n + 1) (lines (later-of (b ∷ bs))) ≡ r → Stops n (b ∷ bs) f
+    on : (a : Event) → reading (first-of (b ∷ bs)) ≡ Ok a → Later → (r : Result (List Event) Fault) →
+        events-from (n + 1) (lines (later-of (b ∷ bs))) ≡ r → Stops n (b ∷ bs) f
     on a g ih (Ok es) i = absurd (ok-or-err (events-more n (first-of (b ∷ bs)) (lines (later-of (b ∷ bs))) a g ∙ ap (λ r. go-on r a) i) whole)
     on a g ih (Err x) i =
         let same = err-same (sym (events-more n (first-of (b ∷ bs)) (lines (later-of (b ∷ bs))) a g ∙ ap (λ r. go-on r a) i) ∙ whole) in
@@ -73,7 +74,7 @@ stops (suc k) n (b ∷ bs) f h e = go (reading (first-of (b ∷ bs))) refl (stop
           rest = later .rest;
           sayable = (told .0, later .sayable);
           split = line-split (b ∷ bs) (some-line (n + 1) (later-of (b ∷ bs)) f fault-later) ∙ (λ j. told .1 j ++ (10 ∷ later .split j))
-            ∙ sym (append-assoc (text-of a) (10 ∷ file-of (later .before)) (later .rest));
+              ∙ sym (append-assoc (text-of a) (10 ∷ file-of (later .before)) (later .rest));
           bad = later .bad;
           reads = later .reads;
           is = later .is ∙ ap (λ m. fault m (later .bad)) (omega arith);

@@ -24,7 +24,8 @@ module _ (file : List ℕ) (short : length file ≤ 60000) where
   pub fed-said : (n : ℕ) → (counted (events-from 1 (lines file)) ≡ Ok n) ↔ ((es : List Event) × Says file es × (length es ≡ n))
   fed-said n = (there (events-from 1 (lines file)) refl, back)
     where
-      there : (r : Result (List Event) Fault) → events-from 1 (lines file) ≡ r → counted (events-from 1 (lines file)) ≡ Ok n → (es : List Event) × Says file es × (length es ≡ n)
+      there : (r : Result (List Event) Fault) → events-from 1 (lines file) ≡ r → counted (events-from 1 (lines file)) ≡ Ok n →
+          (es : List Event) × Says file es × (length es ≡ n)
       there (Ok es) e h =
           let told = events-said file es .0 e in
           (es, record { short = short; sayable = told .0; text = told .1 }, ok-same (sym (ap counted e) ∙ h))

@@ -56,7 +56,8 @@ lines-joined (b ∷ c ∷ cs) = go (lines-joined (c ∷ cs))
 abbrev pub go-on : Result (List Event) Fault → Event → Result (List Event) Fault
 go-on r e = andThen r (λ es. Ok (e ∷ es))
 
-pub events-more : (n : ℕ) (l : List ℕ) (ls : List (List ℕ)) (e : Event) → reading l ≡ Ok e → events-from n (l ∷ ls) ≡ go-on (events-from (n + 1) ls) e
+pub events-more : (n : ℕ) (l : List ℕ) (ls : List (List ℕ)) (e : Event) → reading l ≡ Ok e →
+    events-from n (l ∷ ls) ≡ go-on (events-from (n + 1) ls) e
 events-more n l ls e h = rw h
 
 pub events-fault : (n : ℕ) (l : List ℕ) (ls : List (List ℕ)) (f : LineFault) → reading l ≡ Err f → events-from n (l ∷ ls) ≡ Err (fault n f)
@@ -70,7 +71,8 @@ lines-said (l ∷ ls) n es h = go (reading l) refl (lines-said ls (n + 1))
     After : Type 0
     After = (es : List Event) → events-from (n + 1) ls ≡ Ok es → AllSayable es × (ls ≡ map text-of es)
 
-    more : (e : Event) → reading l ≡ Ok e → After → (r : Result (List Event) Fault) → events-from (n + 1) ls ≡ r → AllSayable es × (l ∷ ls ≡ map text-of es)
+    more : (e : Event) → reading l ≡ Ok e → After → (r : Result (List Event) Fault) → events-from (n + 1) ls ≡ r → AllSayable es ×
+        (l ∷ ls ≡ map text-of es)
     more e f ih (Ok later) g =
         let told = reading-says l e .0 f in
         let whole : e ∷ later ≡ es = ok-same (sym (events-more n l ls e f ∙ ap (λ r. go-on r e) g) ∙ h) in
@@ -84,7 +86,8 @@ lines-said (l ∷ ls) n es h = go (reading l) refl (lines-said ls (n + 1))
 said-lines : (es : List Event) (n : ℕ) → AllSayable es → events-from n (map text-of es) ≡ Ok es
 said-lines [] n s = refl
 said-lines (e ∷ es) n s =
-    events-more n (text-of e) (map text-of es) e (reading-says (text-of e) e .1 (s .0, refl)) ∙ ap (λ r. go-on r e) (said-lines es (n + 1) (s .1))
+    events-more n (text-of e) (map text-of es) e (reading-says (text-of e) e .1 (s .0, refl))
+    ∙ ap (λ r. go-on r e) (said-lines es (n + 1) (s .1))
 
 -- the texts, each with its newline, are the file of the events
 unlines-texts : (es : List Event) → unlines (map text-of es) ≡ file-of es
@@ -94,6 +97,6 @@ unlines-texts (e ∷ es) = ap (λ t. text-of e ++ (10 ∷ t)) (unlines-texts es)
 -- the events are read exactly where the file says them
 pub events-said : (file : List ℕ) (es : List Event) → (events-from 1 (lines file) ≡ Ok es) ↔ (AllSayable es × Ended file (file-of es))
 events-said file es = (
-    (λ h. let told = lines-said (lines file) 1 es h in (told .0, subst (Ended file) (ap unlines (told .1) ∙ unlines-texts es) (lines-joined file))),
-    λ h. ap (events-from 1) (lines-of-ended file es (h .0) (h .1)) ∙ said-lines es 1 (h .0),
-  )
+  (λ h. let told = lines-said (lines file) 1 es h in (told .0, subst (Ended file) (ap unlines (told .1) ∙ unlines-texts es) (lines-joined file))),
+  λ h. ap (events-from 1) (lines-of-ended file es (h .0) (h .1)) ∙ said-lines es 1 (h .0),
+)

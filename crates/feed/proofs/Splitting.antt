@@ -27,7 +27,7 @@ module _ (bs : List ℕ) (i : ℕ) (w : Within bs i) where
       let next = drop-more bs i 0 h in
       record {
         first = w .first ∙ ap (λ t. take i bs ++ t) (ap first-of next ∙ cond-false _ _ _ other)
-          ∙ sym (ap (λ t. t ++ first-of (drop (i + 1) bs)) (take-more bs i 0 h) ∙ append-assoc (take i bs) _ _);
+            ∙ sym (ap (λ t. t ++ first-of (drop (i + 1) bs)) (take-more bs i 0 h) ∙ append-assoc (take i bs) _ _);
         later = w .later ∙ ap later-of next ∙ cond-false _ _ _ other;
       }
 
@@ -49,14 +49,16 @@ pub lines-split : (bs : List ℕ) → 0 < length bs → lines bs ≡ first-of bs
 lines-split [] h = absurd (omega arith)
 lines-split (b ∷ bs) h = go bs (lines-split bs)
   where
-    go : (cs : List ℕ) → (0 < length cs → lines cs ≡ first-of cs ∷ lines (later-of cs)) → lines (b ∷ cs) ≡ first-of (b ∷ cs) ∷ lines (later-of (b ∷ cs))
+    go : (cs : List ℕ) → (0 < length cs → lines cs ≡ first-of cs ∷ lines (later-of cs)) →
+        lines (b ∷ cs) ≡ first-of (b ∷ cs) ∷ lines (later-of (b ∷ cs))
     go cs ih =
         ⊎-elim
         (λ e. cond-true _ _ _ e ∙ sym (λ k. cond-true (eqb b 10) [] (b ∷ first-of cs) e k ∷ lines (cond-true (eqb b 10) cs (later-of cs) e k)))
         (λ e. cond-false _ _ _ e ∙ other cs ih ∙ sym (λ k. cond-false (eqb b 10) [] (b ∷ first-of cs) e k ∷ lines (cond-false (eqb b 10) cs (later-of cs) e k)))
         (cases-bool (eqb b 10))
       where
-        other : (ds : List ℕ) → (0 < length ds → lines ds ≡ first-of ds ∷ lines (later-of ds)) → onto b (lines ds) ≡ (b ∷ first-of ds) ∷ lines (later-of ds)
+        other : (ds : List ℕ) → (0 < length ds → lines ds ≡ first-of ds ∷ lines (later-of ds)) →
+            onto b (lines ds) ≡ (b ∷ first-of ds) ∷ lines (later-of ds)
         other [] ih = refl
         other (d ∷ ds) ih = ap (onto b) (ih (omega arith))
 

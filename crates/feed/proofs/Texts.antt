@@ -49,7 +49,8 @@ solid-literal : (bs : List ℕ) → no-newline bs ≡ true → Solid bs
 solid-literal [] h = tt
 solid-literal (b ∷ bs) h = let p = and-parts _ _ h in (eqb-false b 10 (not-true _ (p .0)), solid-literal bs (p .1))
 
-solid-line : (front between : List ℕ) (t x : ℕ) → no-newline front ≡ true → no-newline between ≡ true → t ≤ 999 → x ≤ 999 → Solid (line-of front between t x)
+solid-line : (front between : List ℕ) (t x : ℕ) → no-newline front ≡ true → no-newline between ≡ true → t ≤ 999 → x ≤ 999 →
+    Solid (line-of front between t x)
 solid-line front between t x p q small also =
     solid-append front _ (solid-literal front p) (solid-append (decimal t) _ (solid-decimal t small)
     (solid-append between _ (solid-literal between q) (solid-append (decimal x) _ (solid-decimal x also) ((λ e. omega arith), tt))))
@@ -77,7 +78,8 @@ lines-of-text (Join t u) s = lines-of-last _ _ (solid-text (Join t u) s)
 
 lines-of-file : (es : List Event) → AllSayable es → lines (file-of es) ≡ map text-of es
 lines-of-file [] s = refl
-lines-of-file (e ∷ es) s = lines-of-line (text-of e) (file-of es) (solid-text e (s .0)) ∙ ap (λ ls. text-of e ∷ ls) (lines-of-file es (s .1))
+lines-of-file (e ∷ es) s = lines-of-line (text-of e) (file-of es) (solid-text e (s .0))
+    ∙ ap (λ ls. text-of e ∷ ls) (lines-of-file es (s .1))
 
 -- the file without its last newline
 abbrev open-file : Event → List Event → List ℕ
@@ -90,7 +92,8 @@ closed e (f ∷ es) = ap (λ t. text-of e ++ (10 ∷ t)) (closed f es) ∙ sym (
 
 lines-of-open : (e : Event) (es : List Event) → AllSayable (e ∷ es) → lines (open-file e es) ≡ map text-of (e ∷ es)
 lines-of-open e [] s = lines-of-text e (s .0)
-lines-of-open e (f ∷ es) s = lines-of-line (text-of e) (open-file f es) (solid-text e (s .0)) ∙ ap (λ ls. text-of e ∷ ls) (lines-of-open f es (s .1))
+lines-of-open e (f ∷ es) s = lines-of-line (text-of e) (open-file f es) (solid-text e (s .0))
+    ∙ ap (λ ls. text-of e ∷ ls) (lines-of-open f es (s .1))
 
 pub lines-of-ended : (file : List ℕ) (es : List Event) → AllSayable es → Ended file (file-of es) → lines file ≡ map text-of es
 lines-of-ended file es s (inl h) = ap lines h ∙ lines-of-file es s

@@ -32,7 +32,11 @@ fn event_at(line: u32, bytes: &[u8]) -> Result<Event, Fault>
 {
     match read_line(bytes) {
         Ok(event) => Ok(event),
-        Err(fault) => Err(Fault { line, column: fault.column, cause: Cause::Text(fault.cause) }),
+        Err(fault) => Err(Fault {
+            line,
+            column: fault.column,
+            cause: Cause::Text(fault.cause),
+        }),
     }
 }
 
@@ -59,7 +63,11 @@ pub fn feed(file: &[u8]) -> Result<u32, Fault>
     ensures stops { λ r. ⌜ ((f : Fault) → r ≡ Err f → TooLong (now (file .entry)) f ⊎ FirstFault (now (file .entry)) f) ⌝ }
 {
     if !fits(file.len()) {
-        return Err(Fault { line: 0, column: 0, cause: Cause::Text(TextCause::Size) });
+        return Err(Fault {
+            line: 0,
+            column: 0,
+            cause: Cause::Text(TextCause::Size),
+        });
     }
     feed_lines(file)
 }

@@ -8,7 +8,11 @@ use std::test::*;
 use text::TextCause;
 
 fn fault(line: u32, column: u32, cause: TextCause) -> Result<u32, Fault> {
-    Err(Fault { line, column, cause: Cause::Text(cause) })
+    Err(Fault {
+        line,
+        column,
+        cause: Cause::Text(cause),
+    })
 }
 
 const GOOD: [(&[u8], u32); 4] = [

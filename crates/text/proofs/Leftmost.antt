@@ -68,7 +68,8 @@ module _ (ps : List Piece) (bare : Bare ps) (bs : List ℕ) where
   good-text ns rest (n, ms, more, small, e, f, s) = ap good f ∙ decimal-good n more small (stops ps ms more bare s)
 
   -- so many digits are a number, and they are followed by no further one
-  digits-stop : (i : ℕ) → 0 < i → i ≤ run bs → i ≤ 3 → (getD bs 0 0 ≡ 48 → i ≡ 1) → ((rest : List ℕ) → good (take (suc i) bs ++ rest) ≡ true → ⊥) → Wrong (number ∷ ps) bs i
+  digits-stop : (i : ℕ) → 0 < i → i ≤ run bs → i ≤ 3 → (getD bs 0 0 ≡ 48 → i ≡ 1) →
+      ((rest : List ℕ) → good (take (suc i) bs ++ rest) ≡ true → ⊥) → Wrong (number ∷ ps) bs i
   digits-stop i some on few lone bad =
       let (ns, more, s) = some-text ps in
       let text = taken-text bs i some on few lone in
@@ -98,10 +99,10 @@ module _ (ps : List Piece) (bare : Bare ps) (bs : List ℕ) where
           let two : 2 ≤ run bs = grind (arith, tells) in
           digits-stop 1 (omega arith) (omega arith) (omega arith) (λ _. refl)
           (λ rest h.
-              let on = run-take bs rest 2 two in
-              let zero = first-byte bs rest 1 (omega (arith, run-within bs)) in
-              let z′ = eqb-true (getD bs 0 0) 48 z in
-              grind (arith, tells))
+          let on = run-take bs rest 2 two in
+          let zero = first-byte bs rest 1 (omega (arith, run-within bs)) in
+          let z′ = eqb-true (getD bs 0 0) 48 z in
+          grind (arith, tells))
 
       fourth : eqb (run bs) 0 ≡ false → eqb (getD bs 0 0) 48 ≡ false → Wrong (number ∷ ps) bs 3
       fourth e z =
@@ -110,7 +111,8 @@ module _ (ps : List Piece) (bare : Bare ps) (bs : List ℕ) where
           (λ rest h. let on = run-take bs rest 4 four in grind (arith, tells))
 
 -- a number further on
-number-on : (ps : List Piece) → Bare ps → (bs : List ℕ) (n : Numeral) (i : ℕ) → Number bs n → Wrong ps (drop (n .digits) bs) i → Wrong (number ∷ ps) bs (n .digits + i)
+number-on : (ps : List Piece) → Bare ps → (bs : List ℕ) (n : Numeral) (i : ℕ) → Number bs n → Wrong ps (drop (n .digits) bs) i →
+    Wrong (number ∷ ps) bs (n .digits + i)
 number-on ps bare bs n i told w =
     let d = n .digits in
     let back = length-drop d bs in
@@ -124,7 +126,8 @@ number-on ps bare bs n i told w =
     split k rest = ap (λ t. t ++ rest) (take-add (n .digits) k bs) ∙ append-assoc (take (n .digits) bs) (take k (drop (n .digits) bs)) rest
 
     -- the digits of both end in the same place
-    again : 0 < length (drop (n .digits) bs) → (rest ns : List ℕ) (s : Spells (number ∷ ps) ns (take (suc (n .digits + i)) bs ++ rest)) → Spells ps (s .1) (take (suc i) (drop (n .digits) bs) ++ rest)
+    again : 0 < length (drop (n .digits) bs) → (rest ns : List ℕ) (s : Spells (number ∷ ps) ns (take (suc (n .digits + i)) bs ++ rest)) →
+        Spells ps (s .1) (take (suc i) (drop (n .digits) bs) ++ rest)
     again more rest ns (m, ms, r, small, e, f, s) =
         let d = n .digits in
         let next = take (suc i) (drop d bs) ++ rest in
@@ -140,10 +143,12 @@ none-from-cond : {X : Type 0} (b : Bool) (x : X) → cond b (Some x) None ≡ No
 none-from-cond true x e = let z : _≡_ {A = ℕ} 0 1 = cc in absurd (omega arith)
 none-from-cond false x e = refl
 
-pub same-column : {A : Type 0} {r : Result A LineFault} (column : ℕ) (cause : TextCause) (f : LineFault) → r ≡ Err (wrong column cause) → r ≡ Err f → f .column ≡ column
+pub same-column : {A : Type 0} {r : Result A LineFault} (column : ℕ) (cause : TextCause) (f : LineFault) → r ≡ Err (wrong column cause) →
+    r ≡ Err f → f .column ≡ column
 same-column column cause f p q = let g : f ≡ wrong column cause = cc in ap (λ x. x .column) g
 
-pub wrong-at : (ps : List Piece) → Parted ps → (column : ℕ) (bs : List ℕ) (f : LineFault) → scan ps column bs ≡ Err f → (i : ℕ) × (f .column ≡ column + i) × Wrong ps bs i
+pub wrong-at : (ps : List Piece) → Parted ps → (column : ℕ) (bs : List ℕ) (f : LineFault) → scan ps column bs ≡ Err f → (i : ℕ) ×
+    (f .column ≡ column + i) × Wrong ps bs i
 unfolding scan
 wrong-at [] h column [] f e = absurd (ok-or-err {f = f} refl e)
 wrong-at [] h column (b ∷ bs) f e =
@@ -153,18 +158,21 @@ wrong-at (byte b ∷ ps) h column [] f e =
 wrong-at (byte b ∷ ps) h column (x ∷ bs) f e =
     ⊎-elim
     (λ t.
-        let (i, k, w) = wrong-at ps h (column + 1) bs f (sym (scan-byte b column (x ∷ bs) ps bs (cond-true _ _ _ t)) ∙ e) in
-        (suc i, omega arith, byte-on b x ps bs i (eqb-true x b t) w))
-    (λ n.
-        (0, same-column column Byte f (scan-byte-fault b column (x ∷ bs) ps _ (cond-false _ _ _ n)) e ∙ sym (add-zero column),
-          at-once (byte b ∷ ps) (x ∷ bs) (λ _ ns rest s. eqb-false x b n (cc (s .1)))))
+    let (i, k, w) = wrong-at ps h (column + 1) bs f (sym (scan-byte b column (x ∷ bs) ps bs (cond-true _ _ _ t)) ∙ e) in
+    (suc i, omega arith, byte-on b x ps bs i (eqb-true x b t) w))
+    (λ n. (
+      0,
+      same-column column Byte f (scan-byte-fault b column (x ∷ bs) ps _ (cond-false _ _ _ n)) e ∙ sym (add-zero column),
+      at-once (byte b ∷ ps) (x ∷ bs) (λ _ ns rest s. eqb-false x b n (cc (s .1))),
+    ))
     (cases-bool (eqb x b))
 wrong-at (number ∷ ps) h column bs f e = go (numeral bs) refl (wrong-at ps (h .1))
   where
     After : Type 0
     After = (column : ℕ) (bs : List ℕ) (f : LineFault) → scan ps column bs ≡ Err f → (i : ℕ) × (f .column ≡ column + i) × Wrong ps bs i
 
-    more : (n : Numeral) → numeral bs ≡ Some n → After → (r : Result (List ℕ) LineFault) → scan ps (column + n .digits) (drop (n .digits) bs) ≡ r → (i : ℕ) × (f .column ≡ column + i) × Wrong (number ∷ ps) bs i
+    more : (n : Numeral) → numeral bs ≡ Some n → After → (r : Result (List ℕ) LineFault) →
+        scan ps (column + n .digits) (drop (n .digits) bs) ≡ r → (i : ℕ) × (f .column ≡ column + i) × Wrong (number ∷ ps) bs i
     more n g ih (Ok ms) k = absurd (ok-or-err (scan-number column bs ps n g ∙ ap (λ r. andThen r (λ ms. Ok (n .value ∷ ms))) k) e)
     more n g ih (Err x) k =
         let all = scan-number column bs ps n g ∙ ap (λ r. andThen r (λ ms. Ok (n .value ∷ ms))) k in

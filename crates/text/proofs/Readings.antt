@@ -23,7 +23,9 @@ use Rattle.text.specs.Lines.{Sayable, Says, Begins, Leftmost, text-of, argumen
 use Rattle.text.proofs.Spelling.{Spells, Parted, spelled-by, reads-spelled}
 
 -- r comes of the scan, at a letter k that stands for the events of this kind
-pub read-by : {r : Result Event LineFault} (make : ℕ → ℕ → Event) (kind letter k : ℕ) (bs : List ℕ) (s : Result (List ℕ) LineFault) → letter ≡ kind → scan (arguments k) 2 bs ≡ s → reading (kind ∷ bs) ≡ event make k bs → r ≡ andThen s (λ ns. Ok (make (getD ns 0 0) (getD ns 1 0))) → r ≡ reading (letter ∷ bs)
+pub read-by : {r : Result Event LineFault} (make : ℕ → ℕ → Event) (kind letter k : ℕ) (bs : List ℕ) (s : Result (List ℕ) LineFault) →
+    letter ≡ kind → scan (arguments k) 2 bs ≡ s → reading (kind ∷ bs) ≡ event make k bs →
+    r ≡ andThen s (λ ns. Ok (make (getD ns 0 0) (getD ns 1 0))) → r ≡ reading (letter ∷ bs)
 read-by make kind letter k bs s e f g h =
     h ∙ sym (ap (λ x. andThen x (λ ns. Ok (make (getD ns 0 0) (getD ns 1 0)))) f) ∙ sym g ∙ ap (λ x. reading (x ∷ bs)) (sym e)
 
@@ -49,14 +51,17 @@ spelled k t x p q = (_, refl, (_, refl, (t, x ∷ [], _, p, refl, refl, (_, refl
 parted : (k : ℕ) → Parted (arguments k)
 parted k = (refl, (refl, tt))
 
-event-scan : (make : ℕ → ℕ → Event) (k : ℕ) (bs : List ℕ) (r : Result (List ℕ) LineFault) → scan (arguments k) 2 bs ≡ r → event make k bs ≡ andThen r (λ ns. Ok (make (getD ns 0 0) (getD ns 1 0)))
+event-scan : (make : ℕ → ℕ → Event) (k : ℕ) (bs : List ℕ) (r : Result (List ℕ) LineFault) → scan (arguments k) 2 bs ≡ r →
+    event make k bs ≡ andThen r (λ ns. Ok (make (getD ns 0 0) (getD ns 1 0)))
 event-scan make k bs r f = ap (λ x. andThen x (λ ns. Ok (make (getD ns 0 0) (getD ns 1 0)))) f
 
-event-spelled : (make : ℕ → ℕ → Event) (k : ℕ) (bs : List ℕ) (e : Event) (r : Result (List ℕ) LineFault) → scan (arguments k) 2 bs ≡ r → event make k bs ≡ Ok e → (ns : List ℕ) × Spells (arguments k) ns bs × (e ≡ make (getD ns 0 0) (getD ns 1 0))
+event-spelled : (make : ℕ → ℕ → Event) (k : ℕ) (bs : List ℕ) (e : Event) (r : Result (List ℕ) LineFault) → scan (arguments k) 2 bs ≡ r →
+    event make k bs ≡ Ok e → (ns : List ℕ) × Spells (arguments k) ns bs × (e ≡ make (getD ns 0 0) (getD ns 1 0))
 event-spelled make k bs e (Ok ns) f g = (ns, spelled-by (arguments k) 2 bs ns f, ok-same (sym g ∙ event-scan make k bs (Ok ns) f))
 event-spelled make k bs e (Err x) f g = absurd (ok-or-err g (event-scan make k bs (Err x) f))
 
-event-fault : (make : ℕ → ℕ → Event) (k : ℕ) (bs : List ℕ) (f : LineFault) (r : Result (List ℕ) LineFault) → scan (arguments k) 2 bs ≡ r → event make k bs ≡ Err f → scan (arguments k) 2 bs ≡ Err f
+event-fault : (make : ℕ → ℕ → Event) (k : ℕ) (bs : List ℕ) (f : LineFault) (r : Result (List ℕ) LineFault) → scan (arguments k) 2 bs ≡ r →
+    event make k bs ≡ Err f → scan (arguments k) 2 bs ≡ Err f
 event-fault make k bs f (Ok ns) g h = absurd (ok-or-err (event-scan make k bs (Ok ns) g) h)
 event-fault make k bs f (Err x) g h = g ∙ ap Err (err-same (sym (event-scan make k bs (Err x) g) ∙ h))
 
@@ -124,9 +129,12 @@ module _ (b : ℕ) (of : OfKind b) (bs : List ℕ) (i : ℕ) (w : Wrong (argumen
   letter-begins : Begins (b ∷ take i bs)
   letter-begins =
       let (ns, rest, s) = w .before in
-      let two = told (of .k) ns (take i bs ++ rest) s in
-      (of .make (two .first) (two .second), rest, of .kind .sayable _ _ (two .small .0) (two .small .1),
-        of .kind .text (two .first) (two .second) ∙ (λ j. sym (of .is) j ∷ sym (two .bytes) j))
+      let two = told (of .k) ns (take i bs ++ rest) s in (
+        of .make (two .first) (two .second),
+        rest,
+        of .kind .sayable _ _ (two .small .0) (two .small .1),
+        of .kind .text (two .first) (two .second) ∙ (λ j. sym (of .is) j ∷ sym (two .bytes) j),
+      )
 
   letter-stops : i < length bs → Begins (b ∷ take (suc i) bs) → ⊥
   letter-stops l (e, rest, say, text) =
@@ -144,7 +152,8 @@ module _ (b : ℕ) (of : OfKind b) (bs : List ℕ) (i : ℕ) (w : Wrong (argumen
       }
 
 -- the fault is the letter, or there is none
-at-letter : (line : List ℕ) → ((b : ℕ) (xs : List ℕ) → line ≡ b ∷ xs → (rest : List ℕ) → reading (b ∷ rest) ≡ Err (wrong 1 Letter)) → Leftmost line 1
+at-letter : (line : List ℕ) → ((b : ℕ) (xs : List ℕ) → line ≡ b ∷ xs → (rest : List ℕ) → reading (b ∷ rest) ≡ Err (wrong 1 Letter)) →
+    Leftmost line 1
 at-letter [] h = record { first = omega arith; last = omega arith; before = begins-nothing; wrong = λ l. absurd (omega arith) }
 at-letter (b ∷ bs) h =
     record {
@@ -161,8 +170,8 @@ reading-leftmost [] f h =
 reading-leftmost (b ∷ bs) f h =
     ⊎-elim
     (λ of.
-        let (i, at, w) = wrong-at (arguments (of .k)) (parted (of .k)) 2 bs f (event-fault (of .make) (of .k) bs f _ refl (as-event b of bs h)) in
-        subst (Leftmost (b ∷ bs)) (omega arith) (behind-letter b of bs i w))
+    let (i, at, w) = wrong-at (arguments (of .k)) (parted (of .k)) 2 bs f (event-fault (of .make) (of .k) bs f _ refl (as-event b of bs h)) in
+    subst (Leftmost (b ∷ bs)) (omega arith) (behind-letter b of bs i w))
     (λ none. subst (Leftmost (b ∷ bs)) (sym (same-column 1 Letter f (none bs) h)) (at-letter (b ∷ bs) (λ c xs e rest. ap (λ y. reading (y ∷ rest)) (head e) ∙ none rest)))
     (letters b)
   where

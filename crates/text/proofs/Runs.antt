@@ -37,7 +37,8 @@ pub run-at : (bs : List ℕ) (i : ℕ) → i < run bs → asciiDigit (getD bs i 
 run-at [] i h = absurd (omega arith)
 run-at (b ∷ bs) i h = go (asciiDigit b) refl i (run-at bs) h
   where
-    go : (t : Bool) → asciiDigit b ≡ t → (i : ℕ) → ((k : ℕ) → k < run bs → asciiDigit (getD bs k 0) ≡ true) → i < run (b ∷ bs) → asciiDigit (getD (b ∷ bs) i 0) ≡ true
+    go : (t : Bool) → asciiDigit b ≡ t → (i : ℕ) → ((k : ℕ) → k < run bs → asciiDigit (getD bs k 0) ≡ true) → i < run (b ∷ bs) →
+        asciiDigit (getD (b ∷ bs) i 0) ≡ true
     go true e zero ih k = e
     go true e (suc i) ih k = ih i (omega (arith, cond-true (asciiDigit b) (suc (run bs)) 0 e))
     go false e i ih k = absurd (omega (arith, cond-false (asciiDigit b) (suc (run bs)) 0 e))

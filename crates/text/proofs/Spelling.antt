@@ -57,7 +57,8 @@ spelled-by (number ∷ ps) column bs ns e = go (numeral bs) refl (spelled-by ps)
     After : Type 0
     After = (column : ℕ) (bs ns : List ℕ) → scan ps column bs ≡ Ok ns → Spells ps ns bs
 
-    more : (n : Numeral) → numeral bs ≡ Some n → After → (r : Result (List ℕ) LineFault) → scan ps (column + n .digits) (drop (n .digits) bs) ≡ r → Spells (number ∷ ps) ns bs
+    more : (n : Numeral) → numeral bs ≡ Some n → After → (r : Result (List ℕ) LineFault) →
+        scan ps (column + n .digits) (drop (n .digits) bs) ≡ r → Spells (number ∷ ps) ns bs
     more n f ih (Ok ms) g =
         let told = numeral-text bs n f in
         let all = scan-number column bs ps n f ∙ ap (λ r. andThen r (λ ms. Ok (n .value ∷ ms))) g in
@@ -77,7 +78,8 @@ pub reads-spelled : (ps : List Piece) → Parted ps → (column : ℕ) (bs ns : 
 unfolding scan
 reads-spelled [] h column bs ns s = ap (scan [] column) (s .1) ∙ ap Ok (sym (s .0))
 reads-spelled (byte b ∷ ps) h column bs ns s =
-    ap (scan (byte b ∷ ps) column) (s .1) ∙ scan-byte b column (b ∷ s .0) ps (s .0) (cond-true _ _ _ (eq-eqb b b refl)) ∙ reads-spelled ps h (column + 1) (s .0) ns (s .2)
+    ap (scan (byte b ∷ ps) column) (s .1) ∙ scan-byte b column (b ∷ s .0) ps (s .0) (cond-true _ _ _ (eq-eqb b b refl))
+    ∙ reads-spelled ps h (column + 1) (s .0) ns (s .2)
 reads-spelled (number ∷ ps) h column bs ns (n, ms, rest, small, front, text, s) =
     let at = decimal-front n rest small (stops ps ms rest (h .0) s) in
     ap (scan (number ∷ ps) column) text ∙ scan-number column (decimal n ++ rest) ps _ at

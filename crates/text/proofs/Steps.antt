@@ -31,12 +31,15 @@ module _ (b column : ℕ) (bs : List ℕ) (ps : List Piece) where
   scan-byte-fault f e = rw e
 
 -- two bytes that stand where they should, before a number
-pub scan-argument : (o l column : ℕ) (bs r s : List ℕ) (ps : List Piece) → past o column bs ≡ Ok r → past l (column + 1) r ≡ Ok s → scan (byte o ∷ byte l ∷ number ∷ ps) column bs ≡ scan (number ∷ ps) (column + 2) s
+pub scan-argument : (o l column : ℕ) (bs r s : List ℕ) (ps : List Piece) → past o column bs ≡ Ok r → past l (column + 1) r ≡ Ok s →
+    scan (byte o ∷ byte l ∷ number ∷ ps) column bs ≡ scan (number ∷ ps) (column + 2) s
 scan-argument o l column bs r s ps e f =
-    scan-byte o column bs (byte l ∷ number ∷ ps) r e ∙ scan-byte l (column + 1) r (number ∷ ps) s f ∙ ap (λ k. scan (number ∷ ps) k s) (add-assoc column 1 1)
+    scan-byte o column bs (byte l ∷ number ∷ ps) r e ∙ scan-byte l (column + 1) r (number ∷ ps) s f
+    ∙ ap (λ k. scan (number ∷ ps) k s) (add-assoc column 1 1)
 
 module _ (column : ℕ) (bs : List ℕ) (ps : List Piece) where
-  pub scan-number : (n : Numeral) → numeral bs ≡ Some n → scan (number ∷ ps) column bs ≡ andThen (scan ps (column + n .digits) (drop (n .digits) bs)) (λ ns. Ok (n .value ∷ ns))
+  pub scan-number : (n : Numeral) → numeral bs ≡ Some n →
+      scan (number ∷ ps) column bs ≡ andThen (scan ps (column + n .digits) (drop (n .digits) bs)) (λ ns. Ok (n .value ∷ ns))
   unfolding scan
   scan-number n e = rw e
 
@@ -55,5 +58,6 @@ scan-further column [] h = absurd (omega arith)
 scan-further column (b ∷ bs) h = refl
 
 -- what is left of a line with two arguments decides it
-pub two-arguments : (t o : ℕ) {whole second last r : Result (List ℕ) LineFault} → whole ≡ andThen second (λ ns. Ok (t ∷ ns)) → second ≡ andThen last (λ ns. Ok (o ∷ ns)) → last ≡ r → whole ≡ andThen (andThen r (λ ns. Ok (o ∷ ns))) (λ ns. Ok (t ∷ ns))
+pub two-arguments : (t o : ℕ) {whole second last r : Result (List ℕ) LineFault} → whole ≡ andThen second (λ ns. Ok (t ∷ ns)) →
+    second ≡ andThen last (λ ns. Ok (o ∷ ns)) → last ≡ r → whole ≡ andThen (andThen r (λ ns. Ok (o ∷ ns))) (λ ns. Ok (t ∷ ns))
 two-arguments t o e f g = e ∙ ap (λ x. andThen x (λ ns. Ok (t ∷ ns))) (f ∙ ap (λ x. andThen x (λ ns. Ok (o ∷ ns))) g)

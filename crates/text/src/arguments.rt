@@ -25,13 +25,21 @@ fn after(bytes: &[u8], column: u32, wanted: u8) -> Result<&[u8], LineFault>
     ensures { λ r. ⌜ Cases r (λ rest. past wanted column (now (bytes .entry)) ≡ Ok (now rest)) (λ e. past wanted column (now (bytes .entry)) ≡ Err e) ⌝ }
 {
     if bytes.is_empty() || bytes[0] != wanted {
-        return Err(LineFault { column, cause: TextCause::Byte });
+        return Err(LineFault {
+            column,
+            cause: TextCause::Byte,
+        });
     }
     Ok(&bytes[1..])
 }
 
 // A byte, a letter and a number, with which the bytes have to begin.
-fn read_argument(bytes: &[u8], column: u32, opening: u8, letter: u8) -> Result<Argument<'_>, LineFault>
+fn read_argument(
+    bytes: &[u8],
+    column: u32,
+    opening: u8,
+    letter: u8,
+) -> Result<Argument<'_>, LineFault>
     requires { ⌜ column ≤ 1000 ⌝ }
     ensures value { λ r. ⌜ ((ps : List Piece) → Cases r
         (λ a. scan (byte opening ∷ byte letter ∷ number ∷ ps) column (now (bytes .entry)) ≡ andThen (scan ps (a .column) (now (a .rest))) (λ ns. Ok (a .value ∷ ns)))
@@ -41,10 +49,17 @@ fn read_argument(bytes: &[u8], column: u32, opening: u8, letter: u8) -> Result<A
     let bytes = after(bytes, column, opening)?;
     let bytes = after(bytes, column + 1, letter)?;
     let Some(numeral) = number(bytes) else {
-        return Err(LineFault { column: column + 2 + wrong_digit(bytes), cause: TextCause::Digit });
+        return Err(LineFault {
+            column: column + 2 + wrong_digit(bytes),
+            cause: TextCause::Digit,
+        });
     };
     let rest = &bytes[numeral.digits as usize..];
-    Ok(Argument { value: numeral.value, rest, column: column + 2 + numeral.digits })
+    Ok(Argument {
+        value: numeral.value,
+        rest,
+        column: column + 2 + numeral.digits,
+    })
 }
 
 // The two numbers of a line. Its bytes from the bracket on begin in this column, and the letter stands before the second.
@@ -56,7 +71,10 @@ pub(crate) fn arguments(bytes: &[u8], column: u32, letter: u8) -> Result<(u16, u
     let other = read_argument(thread.rest, thread.column, b',', letter)?;
     let further = after(other.rest, other.column, b')')?;
     if !further.is_empty() {
-        return Err(LineFault { column: other.column + 1, cause: TextCause::Byte });
+        return Err(LineFault {
+            column: other.column + 1,
+            cause: TextCause::Byte,
+        });
     }
     Ok((thread.value, other.value))
 }

@@ -3,7 +3,9 @@ ghost use mathlib.Core.Path.{_≡_};
 ghost use mathlib.Core.List.{_∷_};
 ghost use mathlib.Core.Logic.{_↔_};
 ghost use Rattle.std.specs.declared.result.Result.the-variants.{Ok, Err};
+ghost use Rattle.text.specs.declared.fault.TextCause.the-variants.{Letter};
 ghost use Rattle.text.specs.Lines.{reading, Says, Leftmost};
+ghost use Rattle.text.specs.Pieces.{wrong};
 use crate::arguments::arguments;
 use crate::fault::LineFault;
 use crate::fault::TextCause;
@@ -11,6 +13,16 @@ use rows::Event;
 
 // The column of the bracket.
 const BRACKET: u32 = 2;
+
+// No letter, or one that stands for no kind of event.
+fn no_kind() -> LineFault
+    ensures { λ r. ⌜ r ≡ wrong 1 Letter ⌝ }
+{
+    LineFault {
+        column: 1,
+        cause: TextCause::Letter,
+    }
+}
 
 // The event that a line says, by its first letter and its bytes from the bracket on.
 fn event(letter: char, from_bracket: &[u8]) -> Result<Event, LineFault>
@@ -33,7 +45,7 @@ fn event(letter: char, from_bracket: &[u8]) -> Result<Event, LineFault>
             let (thread, joined) = arguments(from_bracket, BRACKET, b'T')?;
             Ok(Event::Join(thread, joined))
         }
-        _ => Err(LineFault { column: 1, cause: TextCause::Letter }),
+        _ => Err(no_kind()),
     }
 }
 
@@ -44,7 +56,7 @@ pub fn read_line(line: &[u8]) -> Result<Event, LineFault>
     ensures leftmost { λ r. ⌜ ((f : LineFault) → r ≡ Err f → Leftmost (now (line .entry)) (f .column)) ⌝ }
 {
     if line.is_empty() {
-        return Err(LineFault { column: 1, cause: TextCause::Letter });
+        return Err(no_kind());
     }
     event(line[0] as char, &line[1..])
 }

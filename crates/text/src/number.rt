@@ -36,7 +36,10 @@ pub(crate) fn number(bytes: &[u8]) -> Option<Numeral>
     for i in 0..digits {
         value = value * 10 + u16::from(bytes[i] - b'0');
     }
-    Some(Numeral { value, digits: digits as u32 })
+    Some(Numeral {
+        value,
+        digits: digits as u32,
+    })
 }
 
 // Where the bytes cease to be a number: no digit at all, a digit after a leading zero, or the fourth digit.

@@ -39,4 +39,5 @@ loop-rest-again c =
 pub returns : need.returns
 returns c =
     let none = nil-from-length _ (eqb-true _ _ (sym (c .loop-rest-test .ensures tt))) in
-    sym (counted-end (c .loop-rest .line)) ∙ ap (λ r. counted-from (c .loop-rest .line) (lines r)) (sym none) ∙ c .loop-rest .inv .0 ∙ counted-all (lines (c .args .file .now))
+    sym (counted-end (c .loop-rest .line)) ∙ ap (λ r. counted-from (c .loop-rest .line) (lines r)) (sym none)
+    ∙ c .loop-rest .inv .0 ∙ counted-all (lines (c .args .file .now))

@@ -23,7 +23,8 @@ pub returns-in-rest : need.returns-in-rest
 returns-in-rest c =
     let none = sym (c .number .ensures) ∙ c .in-rest .is in
     record {
-      value = λ ps. scan-argument _ _ _ _ _ _ ps (c .in-Continue-bytes .ensures tt) (c .in-Continue-bytes-2 .ensures tt) ∙ scan-number-fault _ _ _ none ∙ ap (λ k. Err (wrong (c .args .column + 2 + k) Digit)) (sym (c .wrong-digit .ensures));
+      value = λ ps. scan-argument _ _ _ _ _ _ ps (c .in-Continue-bytes .ensures tt) (c .in-Continue-bytes-2 .ensures tt)
+          ∙ scan-number-fault _ _ _ none ∙ ap (λ k. Err (wrong (c .args .column + 2 + k) Digit)) (sym (c .wrong-digit .ensures));
       bound = tt;
     }
 

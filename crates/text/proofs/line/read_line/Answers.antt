@@ -24,10 +24,12 @@ module _ (line : List ℕ) (r : Result Event LineFault) (is : r ≡ reading line
 
 pub returns-then-is-empty : need.returns-then-is-empty
 returns-then-is-empty c =
-    let is = sym (ap reading (nil-from-length (c .args .line .now) (eqb-true _ _ (sym (c .if-is-empty .ensures tt))))) in
+    let is = ap Err (c .no-kind .ensures)
+    ∙ sym (ap reading (nil-from-length (c .args .line .now) (eqb-true _ _ (sym (c .if-is-empty .ensures tt))))) in
     record { value = is; said = says _ _ is; leftmost = leftmost _ _ is }
 
 pub returns : need.returns
 returns c =
-    let is = c .event .ensures ∙ sym (ap reading (first-rest (c .args .line .now) 0 (omega (arith, eqb-false _ _ (sym (c .if-is-empty .ensures tt)))))) in
+    let is = c .event .ensures
+    ∙ sym (ap reading (first-rest (c .args .line .now) 0 (omega (arith, eqb-false _ _ (sym (c .if-is-empty .ensures tt)))))) in
     record { value = is; said = says _ _ is; leftmost = leftmost _ _ is }

@@ -15,7 +15,8 @@ few c =
     omega (arith, c .loop-i .inv, run-few (c .args .bytes .now) (c .loop-i .i) (omega arith) (omega arith))
 
 -- the next byte is a digit
-next : (c : In-loop-i) → (48 ≤ getD (c .args .bytes .now) (c .loop-i .i) 0) × (getD (c .args .bytes .now) (c .loop-i .i) 0 ≤ 57) × (digitValue (getD (c .args .bytes .now) (c .loop-i .i) 0) ≡ getD (c .args .bytes .now) (c .loop-i .i) 0 - 48)
+next : (c : In-loop-i) → (48 ≤ getD (c .args .bytes .now) (c .loop-i .i) 0) × (getD (c .args .bytes .now) (c .loop-i .i) 0 ≤ 57) ×
+    (digitValue (getD (c .args .bytes .now) (c .loop-i .i) 0) ≡ getD (c .args .bytes .now) (c .loop-i .i) 0 - 48)
 next c = run-digit (c .args .bytes .now) (c .loop-i .i) (omega (arith, c .digit-run-digits .ensures .value))
 
 pub mul-value : need.mul-value
