@@ -8,7 +8,7 @@ use native.Mathlib.Omega.{arith}
 use lib.ListN.{length}
 use Rattle.std.specs.declared.result.Result.{Result}
 use Rattle.std.specs.declared.result.Result.the-variants.{Ok, Err}
-use Rattle.rows.specs.declared.Event.{Event}
+use Rattle.rows.specs.declared.event.Event.{Event}
 use Rattle.text.specs.Lines.{reading}
 use Rattle.text.specs.Pieces.{andThen}
 use Rattle.feed.specs.declared.fault.Fault.{Fault}

@@ -12,7 +12,7 @@ use lib.ListN.{length}
 use Rattle.std.specs.declared.result.Result.{Result}
 use Rattle.std.specs.declared.result.Result.the-variants.{Ok, Err}
 use Rattle.std.proofs.shelf.Tests.{cond-true, cond-false, cases-bool, eqb-true}
-use Rattle.rows.specs.declared.Event.{Event}
+use Rattle.rows.specs.declared.event.Event.{Event}
 use Rattle.text.specs.declared.fault.LineFault.{LineFault}
 use Rattle.text.specs.Lines.{text-of, reading}
 use Rattle.text.specs.Pieces.{andThen}

@@ -9,7 +9,7 @@ use lib.ListN.{length}
 use Rattle.std.specs.declared.result.Result.{Result}
 use Rattle.std.specs.declared.result.Result.the-variants.{Ok, Err}
 use Rattle.std.proofs.shelf.Tests.{cond-true, le-leb}
-use Rattle.rows.specs.declared.Event.{Event}
+use Rattle.rows.specs.declared.event.Event.{Event}
 use Rattle.text.proofs.Results.{ok-or-err, ok-same, err-same}
 use Rattle.feed.specs.declared.fault.Fault.{Fault}
 use Rattle.feed.specs.Files.{events-from, events, counted, Says, FirstFault}

@@ -14,8 +14,8 @@ use Rattle.std.proofs.shelf.Decimals.{digits-decimal}
 use Rattle.std.proofs.shelf.Lists.{append-cancel-right}
 use Rattle.std.proofs.shelf.Numerals.{numerals-by-value, tells-digits, digit-from-value}
 use Rattle.std.proofs.shelf.Tests.{cond-false, eqb-false, ne-eqb, and-parts, not-true}
-use Rattle.rows.specs.declared.Event.{Event}
-use Rattle.rows.specs.declared.Event.the-variants.{Lock, Release, Start, Join}
+use Rattle.rows.specs.declared.event.Event.{Event}
+use Rattle.rows.specs.declared.event.Event.the-variants.{Lock, Release, Start, Join}
 use Rattle.text.specs.Lines.{Sayable, text-of, line-of}
 use Rattle.feed.specs.Files.{file-of, AllSayable}
 use Rattle.feed.specs.Lines.{onto, lines}

@@ -9,7 +9,7 @@ use lib.Dec.{leb}
 use lib.ListN.{length}
 use Rattle.std.specs.declared.result.Result.{Result}
 use Rattle.std.specs.declared.result.Result.the-variants.{Ok, Err}
-use Rattle.rows.specs.declared.Event.{Event}
+use Rattle.rows.specs.declared.event.Event.{Event}
 use Rattle.text.specs.declared.fault.LineFault.{LineFault}
 use Rattle.text.specs.declared.fault.TextCause.the-variants.{Size}
 use Rattle.text.specs.Lines.{Sayable, text-of, reading}

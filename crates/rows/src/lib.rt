@@ -1,14 +1,33 @@
-// The plain rows that the check works with.
+// The plain rows that the check works with, their orders and their checks.
+mod circle;
+mod closing;
+mod edge;
+mod event;
+mod laws;
+mod row;
+mod step;
 
-// One event of a recording. The first number of each is the acting thread.
-#[derive(Clone, Copy, PartialEq, Eq, Debug)]
-pub enum Event {
-    // the thread takes the lock
-    Lock(u16, u16),
-    // the thread gives the lock up
-    Release(u16, u16),
-    // the thread starts the second thread
-    Start(u16, u16),
-    // the thread has waited for the second thread to end
-    Join(u16, u16),
-}
+pub use circle::Circle;
+pub use edge::Edge;
+pub use edge::EdgeDebug;
+pub use edge::EdgeEq;
+pub use edge::EdgePartialEq;
+pub use edge::EdgeRecord;
+pub use edge::EdgeWholeKey;
+pub use event::Event;
+pub use event::EventDebug;
+pub use event::EventEq;
+pub use event::EventPartialEq;
+pub use laws::blank_rows_are_lawful;
+pub use row::CircleRow;
+pub use row::CircleRowDebug;
+pub use row::CircleRowEq;
+pub use row::CircleRowPartialEq;
+pub use row::CircleRowRecord;
+pub use row::CircleRowWholeKey;
+pub use step::Step;
+pub use step::StepDebug;
+pub use step::StepEq;
+pub use step::StepOrd;
+pub use step::StepPartialEq;
+pub use step::StepPartialOrd;

@@ -10,8 +10,8 @@ use lib.ListN.{length, getD, take}
 use Rattle.std.specs.Written.{decimal}
 use Rattle.std.specs.declared.result.Result.{Result}
 use Rattle.std.specs.declared.result.Result.the-variants.{Ok, Err}
-use Rattle.rows.specs.declared.Event.{Event}
-use Rattle.rows.specs.declared.Event.the-variants.{Lock, Release, Start, Join}
+use Rattle.rows.specs.declared.event.Event.{Event}
+use Rattle.rows.specs.declared.event.Event.the-variants.{Lock, Release, Start, Join}
 use Rattle.text.specs.declared.fault.LineFault.{LineFault}
 use Rattle.text.specs.declared.fault.TextCause.the-variants.{Letter}
 use Rattle.text.specs.Pieces.{Piece, byte, number, wrong, andThen, scan}

@@ -1,6 +1,6 @@
 use mathlib.Core.Path.{refl}
 use Rattle.std.proofs.shelf.Results.{err-from-errBy}
-use Rattle.rows.specs.declared.Event.the-variants.{Lock, Release, Start, Join}
+use Rattle.rows.specs.declared.event.Event.the-variants.{Lock, Release, Start, Join}
 use Rattle.text.proofs.Readings.{read-by}
 use Rattle.text.proofs.line.event.Needs as need
 

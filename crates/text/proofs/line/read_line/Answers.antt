@@ -8,7 +8,7 @@ use Rattle.std.specs.declared.result.Result.the-variants.{Ok, Err}
 use Rattle.std.proofs.shelf.Lists.{nil-from-length}
 use Rattle.std.proofs.shelf.Parts.{first-rest}
 use Rattle.std.proofs.shelf.Tests.{eqb-true, eqb-false}
-use Rattle.rows.specs.declared.Event.{Event}
+use Rattle.rows.specs.declared.event.Event.{Event}
 use Rattle.text.specs.declared.fault.LineFault.{LineFault}
 use Rattle.text.specs.Lines.{reading, Says, Leftmost}
 use Rattle.text.proofs.Readings.{reading-says, reading-leftmost}

@@ -1,0 +1,5 @@
+// Edges, circles and lists of them by example.
+#[cfg(test)]
+mod circles;
+#[cfg(test)]
+mod edges;

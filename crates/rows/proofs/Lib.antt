@@ -1,0 +1,5 @@
+pub mod Orders
+pub mod Conjunctions
+pub mod Linking
+pub mod Deciding
+pub mod Rounds

@@ -1,0 +1,4 @@
+pub mod Causes
+pub mod Orders
+pub mod Lists
+pub mod Laws
