@@ -7,7 +7,7 @@ use sorted_list::Record;
 use sorted_list::SortedList;
 
 // Adds the records in turn, those that are refused too, and answers how many the list then holds.
-pub fn fill<R: Record>(places: &mut [R], records: &[R]) -> usize
+pub(crate) fn fill<R: Record>(places: &mut [R], records: &[R]) -> usize
     ensures places { λ _. ⌜ now (places .exit) ≡ memory (filled rank (opened vacant (length (now (places .entry)))) (now (records .entry))) ⌝ }
     ensures count { λ r. ⌜ r ≡ length (filled rank (opened vacant (length (now (places .entry)))) (now (records .entry)) .records) ⌝ }
 {
