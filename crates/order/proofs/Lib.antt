@@ -1,0 +1,10 @@
+pub mod Words
+pub mod Same
+pub mod Calls
+pub mod Growing
+pub mod Matrices
+pub mod Paths
+pub mod Histories
+pub mod Runs
+pub mod Rooms
+pub mod Clocking
