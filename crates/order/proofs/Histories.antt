@@ -14,7 +14,8 @@ use Rattle.order.specs.declared.request.Call.{Call}
 use Rattle.order.specs.declared.request.Call.the-variants.{Fork, Meet}
 use Rattle.order.specs.declared.cause.OrderCause.the-variants.{Ceiling}
 use Rattle.order.specs.Meaning.{Meaning, upto, closed, opened, forked, met, admitted, unless-refused}
-use Rattle.order.specs.Histories.{Arrow, arrow, Path⁺, one, more, Told, arrows-to, drawn-by, History, start, called, replayed}
+use Rattle.order.specs.Arrows.{Arrow, arrow, Path⁺, one, more}
+use Rattle.order.specs.Histories.{Told, arrows-to, drawn-by, History, start, called, replayed}
 use Rattle.order.proofs.Paths.{Inside, Onto, Leads, told-more, inside-more}
 
 -- Open ends are segments.

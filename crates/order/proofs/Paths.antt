@@ -8,7 +8,8 @@ use native.Mathlib.Omega.{arith}
 use Rattle.std.specs.Orderings.{Decides}
 use Rattle.std.proofs.shelf.Tests.{cases-eq, eq-eqb, ne-eqb}
 use Rattle.order.specs.Meaning.{Meaning, opened}
-use Rattle.order.specs.Histories.{Arrow, arrow, Path⁺, one, more, Told}
+use Rattle.order.specs.Arrows.{Arrow, arrow, Path⁺, one, more}
+use Rattle.order.specs.Histories.{Told}
 
 -- Every arrow joins segments below n.
 abbrev pub Inside : ℕ → List Arrow → Type 0

@@ -1,26 +1,15 @@
 -- Lists of calls, the arrows that they draw, and what the order says of them.
 -- Assumes nothing.
-use mathlib.Core.List.{List, [], _∷_, _++_, List·Memᴰ}
+use mathlib.Core.List.{List, [], _∷_, _++_}
 use Prim.Native.Nat.{ℕ, _+_}
 use Rattle.std.specs.Orderings.{Decides}
 use Rattle.std.specs.declared.result.Result.{Result}
 use Rattle.std.specs.declared.result.Result.the-variants.{Ok, Err}
+use Rattle.order.specs.Arrows.{Arrow, arrow, Path⁺}
 use Rattle.order.specs.declared.request.Call.{Call}
 use Rattle.order.specs.declared.request.Call.the-variants.{Fork, Meet}
 use Rattle.order.specs.declared.cause.OrderCause.{OrderCause}
 use Rattle.order.specs.Meaning.{Meaning, fresh-order, fork-answer, fork-after, meet-answer, meet-after}
-
-pub record Arrow : Type 0 where
-  pub from : ℕ
-  pub to : ℕ
-
-abbrev pub arrow : ℕ → ℕ → Arrow
-arrow x y = record { from = x; to = y }
-
--- A path of one or more arrows.
-pub data Path⁺ (drawn : List Arrow) : ℕ → ℕ → Type 0 where
-  one : {x y : ℕ} → List·Memᴰ (arrow x y) drawn → Path⁺ drawn x y
-  more : {x y z : ℕ} → List·Memᴰ (arrow x y) drawn → Path⁺ drawn y z → Path⁺ drawn x z
 
 -- One segment precedes another exactly when a path leads from it to the other.
 abbrev pub Told : Meaning → List Arrow → Type 0

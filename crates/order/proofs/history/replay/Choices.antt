@@ -1,6 +1,7 @@
 use mathlib.Core.Path.{_≡_}
 use lib.ListN.{drop}
-use Rattle.order.specs.Histories.{Arrow, start, replayed}
+use Rattle.order.specs.Arrows.{Arrow}
+use Rattle.order.specs.Histories.{start, replayed}
 use mathlib.Core.List.{List}
 use Rattle.order.proofs.history.replay.Given as given
 

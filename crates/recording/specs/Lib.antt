@@ -1,0 +1,13 @@
+pub mod Recording
+pub mod Halts
+pub mod Segments
+pub mod Ledger
+pub mod Edges
+pub mod Chains
+pub mod Stops
+pub mod SameThreads
+pub mod Enumeration
+pub mod Sorting
+pub mod Answers
+pub mod EdgeList
+pub mod Reports
