@@ -1,4 +1,6 @@
 // The whole job in one call.
+#![tactic(auto)]
+
 mod job;
 
 pub use job::check_file;

@@ -1,4 +1,6 @@
 // Reads a recording from standard input and says what each of its lines does, or what is wrong with it.
+#![tactic(auto)]
+
 use anyhow::anyhow;
 use feed::{Fault, feed, first_line};
 use output::fault_line;

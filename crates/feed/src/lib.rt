@@ -1,4 +1,6 @@
 // Feeding a whole file, line by line.
+#![tactic(auto)]
+
 mod fault;
 mod file;
 mod lines;

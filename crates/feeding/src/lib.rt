@@ -1,4 +1,6 @@
 // Feeding a whole file to a ledger, line by line.
+#![tactic(auto)]
+
 mod fault;
 mod file;
 

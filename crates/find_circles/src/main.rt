@@ -1,5 +1,7 @@
 // Reads a recording from standard input and lists the circles of threads that could end up waiting for one another, or says what
 // is wrong with the recording.
+#![tactic(auto)]
+
 use anyhow::anyhow;
 use check::check_file;
 use feeding::Fault;

@@ -1,4 +1,6 @@
 // The ledger: what each thread does now, in which segment of its life, and which locks it holds.
+#![tactic(auto)]
+
 mod ledger;
 mod row;
 mod table;

@@ -1,4 +1,6 @@
 // The ledger's events by example, with both orders.
+#![tactic(auto)]
+
 #[cfg(test)]
 mod accepted;
 #[cfg(test)]

@@ -1,4 +1,6 @@
 // Lines, files and printed lines by example.
+#![tactic(auto)]
+
 #[cfg(test)]
 mod files;
 #[cfg(test)]

@@ -1,4 +1,6 @@
 // The order of segments: one interface and its implementations.
+#![tactic(auto)]
+
 mod admission;
 mod bits;
 mod cause;

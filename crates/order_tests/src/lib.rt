@@ -1,4 +1,6 @@
 // Orders of segments by example, and beside plain lists of arrows.
+#![tactic(auto)]
+
 #[cfg(test)]
 mod agreement;
 #[cfg(test)]

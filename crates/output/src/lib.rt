@@ -1,4 +1,6 @@
 // What is written about a recording: the odds of its circles, and lines of text in lent memory.
+#![tactic(auto)]
+
 mod cause;
 mod chance;
 mod fault;

@@ -1,4 +1,6 @@
 // What is written about a recording and its report: lines of text in lent memory.
+#![tactic(auto)]
+
 mod answer;
 mod circle;
 mod fault;

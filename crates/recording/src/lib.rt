@@ -1,5 +1,7 @@
 // Recordings, halts and stops: the subject's vocabulary stands in specs/. Here are its laws, each the contract of a
 // function that does nothing, and what a report answers.
+#![tactic(auto)]
+
 ghost use Rattle.recording.specs.Answers.{ReportsAreLawful};
 ghost use Rattle.recording.specs.EdgeList.{EdgesAreListed};
 ghost use Rattle.recording.specs.Enumeration.{ChainsAreEnumerated};

@@ -1,3 +1,5 @@
 // Reports by example.
+#![tactic(auto)]
+
 #[cfg(test)]
 mod reports;

@@ -1,4 +1,6 @@
 // The plain rows that the check works with, their orders and their checks.
+#![tactic(auto)]
+
 mod circle;
 mod closing;
 mod edge;

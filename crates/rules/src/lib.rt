@@ -1,5 +1,7 @@
 // The rules of events: what each event does to the thread rows, the edge list and the order, and which recording stands
 // behind the three. The rules are definitions in specs/; the code that follows them is in the crate `ledger`.
+#![tactic(auto)]
+
 mod cause;
 mod laws;
 

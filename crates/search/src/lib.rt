@@ -1,4 +1,6 @@
 // The search: the chains of an edge list are walked one after another, and the closed ones are reported as circles.
+#![tactic(auto)]
+
 mod calls;
 mod closing;
 mod index;

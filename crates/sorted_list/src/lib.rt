@@ -1,4 +1,6 @@
 // A sorted list of records over memory that the caller lends.
+#![tactic(auto)]
+
 mod cause;
 mod laws;
 mod list;

@@ -1,4 +1,6 @@
 // The text layer: one line of a recording to its event.
+#![tactic(auto)]
+
 mod arguments;
 mod fault;
 mod line;
