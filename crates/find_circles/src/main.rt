@@ -3,8 +3,8 @@
 #![tactic(auto)]
 
 use anyhow::anyhow;
-use check::check_file;
 use feeding::Fault;
+use file_check::check_file;
 use order::Matrix;
 use printing::{answer_line, circle_line, fault_line};
 use recording::Answer;

@@ -1,7 +1,7 @@
 -- The worked recordings, each with what comes out.
 -- Assumes nothing.
 use Rattle.std.specs.Prelude.{◌≡◌, Ok, Err, codes}
-use Rattle.check.specs.Checks.{checked}
+use Rattle.file_check.specs.Checks.{checked}
 use Rattle.output.specs.Causes.{cause_number}
 use Rattle.output.specs.Odds.{odds_of}
 use Rattle.output.specs.declared.cause.OutputCause.TheVariants.{Odds}

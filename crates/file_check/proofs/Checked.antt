@@ -21,7 +21,7 @@ use Rattle.feeding.proofs.Fed.{feeds}
 use Rattle.feeding.proofs.Recorded.{file_recorded}
 use Rattle.search.specs.Promises.{BehindBoth, ListsStops}
 use Rattle.search.proofs.Promises.{lists_stops, same_answers}
-use Rattle.check.specs.Checks.{fed_state, of_report, if_fed, checked, circles_left, circles_after, Tells, SameThreadsChecked}
+use Rattle.file_check.specs.Checks.{fed_state, of_report, if_fed, checked, circles_left, circles_after, Tells, SameThreadsChecked}
 
 module _ (limit places : ℕ) where
   -- the recording of a file without fault stands behind what it leaves

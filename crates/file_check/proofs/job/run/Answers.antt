@@ -3,10 +3,10 @@ use Rattle.std.proofs.lemmas.Result.{err_from_is_err_and}
 use Rattle.sorted_list.specs.Lists.{held}
 use Rattle.ledger.specs.Ledgers.{state_with}
 use Rattle.rules.specs.States.{State, state, fresh_state}
-use Rattle.check.proofs.Checked.{left_is, fault_answer, fault_circles, whole_answer, whole_circles}
-use Rattle.check.proofs.job.run.Given.{Over}
-use Rattle.check.proofs.job.run.Goals as goal
-use Rattle.check.proofs.job.run.Goals.{After-feed}
+use Rattle.file_check.proofs.Checked.{left_is, fault_answer, fault_circles, whole_answer, whole_circles}
+use Rattle.file_check.proofs.job.run.Given.{Over}
+use Rattle.file_check.proofs.job.run.Goals as goal
+use Rattle.file_check.proofs.job.run.Goals.{After-feed}
 
 -- what is fed is fresh
 fresh : (g : Over) (c : After-feed g)

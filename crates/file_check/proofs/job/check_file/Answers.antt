@@ -1,7 +1,7 @@
 use Rattle.std.proofs.Common.{length}
 use Rattle.sorted_list.specs.Lists.{held}
-use Rattle.check.proofs.Checked.{tells, alike}
-use Rattle.check.proofs.job.check_file.Goals as goal
+use Rattle.file_check.proofs.Checked.{tells, alike}
+use Rattle.file_check.proofs.job.check_file.Goals as goal
 
 pub returns : goal.returns
 returns g c =

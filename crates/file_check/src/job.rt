@@ -2,7 +2,7 @@
 ghost use Rattle.std.specs.Prelude.{◌≡◌, length};
 ghost use Rattle.sorted_list.specs.Lists.{held};
 ghost use Rattle.recording.specs.Replies.{reply, reported};
-ghost use Rattle.check.specs.Checks.{of_report, fed_state, checked, circles_after, Tells, SameThreadsChecked};
+ghost use Rattle.file_check.specs.Checks.{of_report, fed_state, checked, circles_after, Tells, SameThreadsChecked};
 
 use feeding::{Fault, feed};
 use ledger::Ledger;
