@@ -35,8 +35,8 @@ fn take_line<O: SegmentOrder>(
     order: &mut O,
     bytes: &[u8],
 ) -> Result<Event, Stop>
-    ensures answers { result ≡ line_answer limit (state_with ledger.old edges.old (meaning order.old)) bytes.now }
-    ensures leaves { state_with ledger.new edges.new (meaning order.new) ≡ line_after limit (state_with ledger.old edges.old (meaning order.old)) bytes.now }
+    ensures answers { result ≡ line_answer O.limit (state_with ledger.old edges.old (O.meaning order.old)) bytes.now }
+    ensures leaves { state_with ledger.new edges.new (O.meaning order.new) ≡ line_after O.limit (state_with ledger.old edges.old (O.meaning order.old)) bytes.now }
     ensures lent { edges.new.places.ghost_name ≡ edges.old.places.ghost_name }
 {
     let event = read_line(bytes)?;
@@ -61,8 +61,8 @@ fn feed_lines<O: SegmentOrder>(
     file: &[u8],
 ) -> Result<u32, Fault>
     requires { length file.now ≤ 60000 }
-    ensures answers { result ≡ fed limit (state_with ledger.old edges.old (meaning order.old)) 0 (lines file.now) }
-    ensures leaves { state_with ledger.new edges.new (meaning order.new) ≡ after_all limit (state_with ledger.old edges.old (meaning order.old)) (taken limit (state_with ledger.old edges.old (meaning order.old)) (lines file.now)) }
+    ensures answers { result ≡ fed O.limit (state_with ledger.old edges.old (O.meaning order.old)) 0 (lines file.now) }
+    ensures leaves { state_with ledger.new edges.new (O.meaning order.new) ≡ after_all O.limit (state_with ledger.old edges.old (O.meaning order.old)) (taken O.limit (state_with ledger.old edges.old (O.meaning order.old)) (lines file.now)) }
     ensures lent { edges.new.places.ghost_name ≡ edges.old.places.ghost_name }
 {
     let mut rest = file;
@@ -83,8 +83,8 @@ fn feed_file<O: SegmentOrder>(
     order: &mut O,
     file: &[u8],
 ) -> Result<u32, Fault>
-    ensures answers { result ≡ file_answer limit (state_with ledger.old edges.old (meaning order.old)) file.now }
-    ensures leaves { state_with ledger.new edges.new (meaning order.new) ≡ after_file limit (state_with ledger.old edges.old (meaning order.old)) file.now }
+    ensures answers { result ≡ file_answer O.limit (state_with ledger.old edges.old (O.meaning order.old)) file.now }
+    ensures leaves { state_with ledger.new edges.new (O.meaning order.new) ≡ after_file O.limit (state_with ledger.old edges.old (O.meaning order.old)) file.now }
     ensures lent { edges.new.places.ghost_name ≡ edges.old.places.ghost_name }
 {
     if !fits(file.len()) {
@@ -105,14 +105,14 @@ pub fn feed<O: SegmentOrder>(
     order: &mut O,
     file: &[u8],
 ) -> Result<u32, Fault>
-    ensures answers { result ≡ file_answer limit (state_with ledger.old edges.old (meaning order.old)) file.now }
-    ensures leaves { state_with ledger.new edges.new (meaning order.new) ≡ after_file limit (state_with ledger.old edges.old (meaning order.old)) file.now }
+    ensures answers { result ≡ file_answer O.limit (state_with ledger.old edges.old (O.meaning order.old)) file.now }
+    ensures leaves { state_with ledger.new edges.new (O.meaning order.new) ≡ after_file O.limit (state_with ledger.old edges.old (O.meaning order.old)) file.now }
     ensures lent { edges.new.places.ghost_name ≡ edges.old.places.ghost_name }
-    ensures feeds { Feeds limit (state_with ledger.old edges.old (meaning order.old)) file.now result }
-    ensures behind { (ρ : Recording) → Behind ρ (state_with ledger.old edges.old (meaning order.old))
-        → Behind (followed ρ (events_taken limit (state_with ledger.old edges.old (meaning order.old)) file.now))
-        (state_with ledger.new edges.new (meaning order.new)) }
-    ensures ends { (ρ : Recording) → Behind ρ (state_with ledger.old edges.old (meaning order.old))
+    ensures feeds { Feeds O.limit (state_with ledger.old edges.old (O.meaning order.old)) file.now result }
+    ensures behind { (ρ : Recording) → Behind ρ (state_with ledger.old edges.old (O.meaning order.old))
+        → Behind (followed ρ (events_taken O.limit (state_with ledger.old edges.old (O.meaning order.old)) file.now))
+        (state_with ledger.new edges.new (O.meaning order.new)) }
+    ensures ends { (ρ : Recording) → Behind ρ (state_with ledger.old edges.old (O.meaning order.old))
         → (f : Fault) → result ≡ Err f → f.cause ≢ Order End }
 {
     feed_file(ledger, edges, order, file)

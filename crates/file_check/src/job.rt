@@ -19,10 +19,10 @@ fn report_fed<O: SegmentOrder>(
     budget: u32,
     circles: &mut SortedList<'_, CircleRow>,
 ) -> Result<Answer, Fault>
-    ensures answers { result ≡ of_report (reply (held edges.now).records (meaning order.now).before budget
+    ensures answers { result ≡ of_report (reply (held edges.now).records (O.meaning order.now).before budget
         (length circles.old.places.now)) }
     ensures holds { held circles.new ≡ reported (held edges.now).records
-        (meaning order.now).before budget (length circles.old.places.now) }
+        (O.meaning order.now).before budget (length circles.old.places.now) }
     ensures lent { circles.new.places.ghost_name ≡ circles.old.places.ghost_name }
 {
     let answer = report(edges, order, budget, circles)?;
@@ -36,10 +36,10 @@ fn run<O: SegmentOrder + Drop>(
     circles: &mut SortedList<'_, CircleRow>,
     budget: u32,
 ) -> Result<Answer, Fault>
-    ensures answers { result ≡ checked limit (length edges.old.places.now) file.now budget
+    ensures answers { result ≡ checked O.limit (length edges.old.places.now) file.now budget
         (length circles.old.places.now) }
-    ensures draws { held edges.new ≡ (fed_state limit (length edges.old.places.now) file.now).edges }
-    ensures holds { held circles.new ≡ circles_after limit (length edges.old.places.now) file.now budget
+    ensures draws { held edges.new ≡ (fed_state O.limit (length edges.old.places.now) file.now).edges }
+    ensures holds { held circles.new ≡ circles_after O.limit (length edges.old.places.now) file.now budget
         (length circles.old.places.now) (held circles.old) }
     ensures lent { (edges.new.places.ghost_name ≡ edges.old.places.ghost_name)
         × (circles.new.places.ghost_name ≡ circles.old.places.ghost_name) }
@@ -59,15 +59,15 @@ pub fn check_file<O: SegmentOrder + Drop>(
     circles: &mut SortedList<'_, CircleRow>,
     budget: u32,
 ) -> Result<Answer, Fault>
-    ensures answers { result ≡ checked limit (length edges.old.places.now) file.now budget
+    ensures answers { result ≡ checked O.limit (length edges.old.places.now) file.now budget
         (length circles.old.places.now) }
-    ensures draws { held edges.new ≡ (fed_state limit (length edges.old.places.now) file.now).edges }
-    ensures holds { held circles.new ≡ circles_after limit (length edges.old.places.now) file.now budget
+    ensures draws { held edges.new ≡ (fed_state O.limit (length edges.old.places.now) file.now).edges }
+    ensures holds { held circles.new ≡ circles_after O.limit (length edges.old.places.now) file.now budget
         (length circles.old.places.now) (held circles.old) }
     ensures lent { (edges.new.places.ghost_name ≡ edges.old.places.ghost_name)
         × (circles.new.places.ghost_name ≡ circles.old.places.ghost_name) }
-    ensures stops { Tells limit (length edges.old.places.now) file.now result (held circles.new).records }
-    ensures alike { SameThreadsChecked limit (length edges.old.places.now) budget
+    ensures stops { Tells O.limit (length edges.old.places.now) file.now result (held circles.new).records }
+    ensures alike { SameThreadsChecked O.limit (length edges.old.places.now) budget
         (length circles.old.places.now) file.now result }
 {
     run::<O>(file, edges, circles, budget)

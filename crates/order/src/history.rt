@@ -8,8 +8,8 @@ use crate::request::Call;
 use crate::segment_order::SegmentOrder;
 
 pub fn make<O: SegmentOrder>(order: &mut O, call: Call) -> Result<u16, OrderCause>
-    ensures answers { result ≡ answer limit (meaning order.old) call }
-    ensures means { meaning order.new ≡ after limit (meaning order.old) call }
+    ensures answers { result ≡ answer O.limit (O.meaning order.old) call }
+    ensures means { O.meaning order.new ≡ after O.limit (O.meaning order.old) call }
 {
     match call {
         Call::Fork(x) => order.fork(x),
@@ -19,8 +19,8 @@ pub fn make<O: SegmentOrder>(order: &mut O, call: Call) -> Result<u16, OrderCaus
 
 // A fresh order on which the calls were made one after another. Those that it refuses change nothing.
 pub fn replay<O: SegmentOrder>(calls: &[Call]) -> O
-    ensures means { meaning result ≡ (replayed limit start calls.now).order }
-    ensures paths { Told (meaning result) (replayed limit start calls.now).arrows }
+    ensures means { O.meaning result ≡ (replayed O.limit start calls.now).order }
+    ensures paths { Told (O.meaning result) (replayed O.limit start calls.now).arrows }
 {
     let mut order = O::fresh();
     for call in calls {
@@ -31,5 +31,5 @@ pub fn replay<O: SegmentOrder>(calls: &[Call]) -> O
 
 // The law for every list of calls, however long.
 pub fn order_is_paths<O: SegmentOrder>()
-    ensures { (calls : List Made) → Told (replayed limit start calls).order (replayed limit start calls).arrows }
+    ensures { (calls : List Made) → Told (replayed O.limit start calls).order (replayed O.limit start calls).arrows }
 {}

@@ -19,12 +19,12 @@ pub fn report<O: SegmentOrder>(
     budget: u32,
     circles: &mut SortedList<'_, CircleRow>,
 ) -> Result<Answer, SearchCause>
-    ensures answers { result ≡ reply (held edges.now).records (meaning order.now).before budget
+    ensures answers { result ≡ reply (held edges.now).records (O.meaning order.now).before budget
         (length circles.old.places.now) }
     ensures holds { held circles.new ≡ reported (held edges.now).records
-        (meaning order.now).before budget (length circles.old.places.now) }
+        (O.meaning order.now).before budget (length circles.old.places.now) }
     ensures lent { circles.new.places.ghost_name ≡ circles.old.places.ghost_name }
-    ensures stops { Promised (held edges.now) (meaning order.now) result (held circles.new).records }
+    ensures stops { Promised (held edges.now) (O.meaning order.now) result (held circles.new).records }
 {
     list_circles(edges, order, budget, circles)
 }

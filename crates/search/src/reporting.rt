@@ -20,8 +20,8 @@ fn walk_chains<O: SegmentOrder>(
     circles: &mut SortedList<'_, CircleRow>,
 ) -> Result<Answer, SearchCause>
     requires { held circles.old ≡ opened blank_row (length circles.old.places.now) }
-    ensures answers { result ≡ reply rows.now (meaning order.now).before budget (length circles.old.places.now) }
-    ensures holds { is_err result ≡ false → held circles.new ≡ reported rows.now (meaning order.now).before budget (length circles.old.places.now) }
+    ensures answers { result ≡ reply rows.now (O.meaning order.now).before budget (length circles.old.places.now) }
+    ensures holds { is_err result ≡ false → held circles.new ≡ reported rows.now (O.meaning order.now).before budget (length circles.old.places.now) }
     ensures size { length circles.new.places.now ≡ length circles.old.places.now }
     ensures lent { circles.new.places.ghost_name ≡ circles.old.places.ghost_name }
 {
@@ -61,8 +61,8 @@ pub(crate) fn list_circles<O: SegmentOrder>(
     budget: u32,
     circles: &mut SortedList<'_, CircleRow>,
 ) -> Result<Answer, SearchCause>
-    ensures answers { result ≡ reply (held edges.now).records (meaning order.now).before budget (length circles.old.places.now) }
-    ensures holds { held circles.new ≡ reported (held edges.now).records (meaning order.now).before budget (length circles.old.places.now) }
+    ensures answers { result ≡ reply (held edges.now).records (O.meaning order.now).before budget (length circles.old.places.now) }
+    ensures holds { held circles.new ≡ reported (held edges.now).records (O.meaning order.now).before budget (length circles.old.places.now) }
     ensures lent { circles.new.places.ghost_name ≡ circles.old.places.ghost_name }
 {
     empty(circles);

@@ -19,7 +19,7 @@ pub(crate) struct Stack {
 
 // Whether neither of two segments precedes the other.
 fn are_unordered<O: SegmentOrder>(order: &O, x: u16, y: u16) -> bool
-    ensures { result ≡ unordered (meaning order.now).before x y }
+    ensures { result ≡ unordered (O.meaning order.now).before x y }
 {
     !order.precedes(x, y) && !order.precedes(y, x)
 }
@@ -91,7 +91,7 @@ impl Stack {
     // Whether the segment is parallel to those of all the edges.
     fn is_parallel<O: SegmentOrder>(&self, order: &O, segment: u16) -> bool
         requires { (0 < self.now.depth) × (self.now.depth ≤ 64) }
-        ensures { result ≡ every (λ l. unordered (meaning order.now).before l.edge.segment segment) (stacked self.now) }
+        ensures { result ≡ every (λ l. unordered (O.meaning order.now).before l.edge.segment segment) (stacked self.now) }
     {
         for i in 0..self.depth {
             if !are_unordered(order, self.levels[i].edge.segment, segment) {
@@ -104,7 +104,7 @@ impl Stack {
     // Whether the edge has a later thread than the first one, a thread and guards that the chain has not, and a parallel segment.
     fn is_apart<O: SegmentOrder>(&self, order: &O, edge: &Edge) -> bool
         requires { (0 < self.now.depth) × ((self.now.depth ≤ 64) × (edge.now.thread ≤ 63)) }
-        ensures { result ≡ (nat_lt (first self.now).edge.thread edge.now.thread && (not (in_set edge.now.thread (top self.now).threads) && (bit_and (top self.now).guards edge.now.guards == 0 && every (λ l. unordered (meaning order.now).before l.edge.segment edge.now.segment) (stacked self.now)))) }
+        ensures { result ≡ (nat_lt (first self.now).edge.thread edge.now.thread && (not (in_set edge.now.thread (top self.now).threads) && (bit_and (top self.now).guards edge.now.guards == 0 && every (λ l. unordered (O.meaning order.now).before l.edge.segment edge.now.segment) (stacked self.now)))) }
     {
         let top = &self.levels[self.depth - 1];
         self.levels[0].edge.thread < edge.thread
@@ -118,7 +118,7 @@ impl Stack {
         requires some { 0 < self.now.depth }
         requires stands { Stands self.now }
         requires holds { holding (top self.now).edge.wanted edge.now ≡ true }
-        ensures { result ≡ may_follow (meaning order.now).before (edges self.now) edge.now }
+        ensures { result ≡ may_follow (O.meaning order.now).before (edges self.now) edge.now }
     {
         self.is_apart(order, edge)
     }

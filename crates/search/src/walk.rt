@@ -34,8 +34,8 @@ impl Stack {
     ) -> Option<usize>
         requires some { 0 < self.now.depth }
         requires indexed { Indexes rows.now index.now }
-        requires walks { Walks rows.now (meaning order.now).before self.now }
-        ensures { result ≡ first_from (may_follow (meaning order.now).before (edges self.now)) rows.now from }
+        requires walks { Walks rows.now (O.meaning order.now).before self.now }
+        ensures { result ≡ first_from (may_follow (O.meaning order.now).before (edges self.now)) rows.now from }
     {
         let wanted = self.levels[self.depth - 1].edge.wanted;
         let mut at = from;
@@ -57,8 +57,8 @@ impl Stack {
         from: usize,
     ) -> Option<usize>
         requires indexed { Indexes rows.now index.now }
-        requires walks { Walks rows.now (meaning order.now).before self.now }
-        ensures { result ≡ first_from (may_follow (meaning order.now).before (edges self.now)) rows.now from }
+        requires walks { Walks rows.now (O.meaning order.now).before self.now }
+        ensures { result ≡ first_from (may_follow (O.meaning order.now).before (edges self.now)) rows.now from }
     {
         if self.depth == 0 {
             return next_edge(rows, from);
@@ -75,10 +75,10 @@ impl Stack {
         order: &O,
     ) -> bool
         requires indexed { Indexes rows.now index.now }
-        requires walks { Walks rows.now (meaning order.now).before self.old }
-        ensures more { result ≡ nat_lt 0 (length (left rows.now (meaning order.now).before (places self.old))) }
-        ensures next { places self.new ≡ slice_index_or (left rows.now (meaning order.now).before (places self.old)) 0 [] }
-        ensures walks { Walks rows.now (meaning order.now).before self.new }
+        requires walks { Walks rows.now (O.meaning order.now).before self.old }
+        ensures more { result ≡ nat_lt 0 (length (left rows.now (O.meaning order.now).before (places self.old))) }
+        ensures next { places self.new ≡ slice_index_or (left rows.now (O.meaning order.now).before (places self.old)) 0 [] }
+        ensures walks { Walks rows.now (O.meaning order.now).before self.new }
     {
         let mut from = 0;
         loop {

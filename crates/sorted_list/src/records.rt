@@ -7,20 +7,20 @@ ghost use Rattle.sorted_list.specs.Lists.{place_for, first_equals};
 use crate::record::Record;
 
 fn comes_before<R: Record>(first: &R, second: &R) -> bool
-    ensures { result ≡ is_lt (rank first.now second.now) }
+    ensures { result ≡ is_lt (R.rank first.now second.now) }
 {
     first.compare(second).is_lt()
 }
 
 fn equals<R: Record>(first: &R, second: &R) -> bool
-    ensures { result ≡ is_eq (rank first.now second.now) }
+    ensures { result ≡ is_eq (R.rank first.now second.now) }
 {
     first.compare(second).is_eq()
 }
 
 // How many records come before the sought one, from the front up to the first that does not.
 pub(crate) fn place_of<R: Record>(records: &[R], sought: &R) -> usize
-    ensures place { result ≡ place_for rank records.now sought.now }
+    ensures place { result ≡ place_for R.rank records.now sought.now }
     ensures within { result ≤ length records.now }
 {
     let mut i = 0;
@@ -32,7 +32,7 @@ pub(crate) fn place_of<R: Record>(records: &[R], sought: &R) -> usize
 
 // Whether the record at the place is equal to the sought one in the order.
 pub(crate) fn stands_at<R: Record>(records: &[R], place: usize, sought: &R) -> bool
-    ensures { result ≡ first_equals rank (drop place records.now) sought.now }
+    ensures { result ≡ first_equals R.rank (drop place records.now) sought.now }
 {
     place < records.len() && equals(&records[place], sought)
 }

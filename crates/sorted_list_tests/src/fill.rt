@@ -7,8 +7,8 @@ use sorted_list::{Record, SortedList};
 
 // Adds the records in turn, those that are refused too, and answers how many the list then holds.
 pub(crate) fn fill<R: Record>(places: &mut [R], records: &[R]) -> usize
-    ensures places { places.new ≡ memory (filled rank (opened vacant (length places.old)) records.now) }
-    ensures count { result ≡ length (filled rank (opened vacant (length places.old)) records.now).records }
+    ensures places { places.new ≡ memory (filled R.rank (opened R.vacant (length places.old)) records.now) }
+    ensures count { result ≡ length (filled R.rank (opened R.vacant (length places.old)) records.now).records }
 {
     let mut list = SortedList::open(places);
     for record in records {

@@ -6,4 +6,4 @@ use Rattle.circles.proofs.print_lines.Goals as goal
 pub loop-rest-smaller : goal.loop-rest-smaller
 loop-rest-smaller c =
     let some = eqb-false _ _ (sym c.loop-rest-test.ensures) in
-    omega (arith, ap length c.first-line.ensures.later, later_less c.loop-rest.rest.now (omega arith))
+    omega (arith, ap length c.first_line.ensures.later, later_less c.loop-rest.rest.now (omega arith))

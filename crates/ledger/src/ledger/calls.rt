@@ -48,7 +48,7 @@ impl Ledger {
         ensures behind { (m : Meaning) → Records (Lock t o) result
             (state_with self.old edges.old m)
             (state_with self.new edges.new m) }
-        ensures accepts { (limit : ℕ) (m : Meaning) → Accepts limit (Lock t o) result
+        ensures accepts { (O.limit : ℕ) (m : Meaning) → Accepts O.limit (Lock t o) result
             (state_with self.old edges.old m) }
     {
         self.take_lock(edges, t, o)
@@ -61,7 +61,7 @@ impl Ledger {
         ensures behind { (h : Held LockEdge) (m : Meaning) → Records (Release t o) result
             (state (rows_of self.old) h m)
             (state (rows_of self.new) h m) }
-        ensures accepts { (limit : ℕ) (h : Held LockEdge) (m : Meaning) → Accepts limit (Release t o) result
+        ensures accepts { (O.limit : ℕ) (h : Held LockEdge) (m : Meaning) → Accepts O.limit (Release t o) result
             (state (rows_of self.old) h m) }
     {
         self.give_up(t, o)
@@ -74,36 +74,36 @@ impl Ledger {
         t: u16,
         u: u16,
     ) -> Result<(), EventCause>
-        ensures answers { result ≡ start_answer limit (rows_of self.old) (meaning order.old) t u }
+        ensures answers { result ≡ start_answer O.limit (rows_of self.old) (O.meaning order.old) t u }
         ensures rows { rows_of self.new
-            ≡ start_rows limit (rows_of self.old) (meaning order.old) t u }
-        ensures means { meaning order.new
-            ≡ start_order limit (rows_of self.old) (meaning order.old) t u }
+            ≡ start_rows O.limit (rows_of self.old) (O.meaning order.old) t u }
+        ensures means { O.meaning order.new
+            ≡ start_order O.limit (rows_of self.old) (O.meaning order.old) t u }
         ensures behind { (h : Held LockEdge) → Records (Start t u) result
-            (state (rows_of self.old) h (meaning order.old))
-            (state (rows_of self.new) h (meaning order.new)) }
-        ensures accepts { (h : Held LockEdge) → Accepts limit (Start t u) result
-            (state (rows_of self.old) h (meaning order.old)) }
+            (state (rows_of self.old) h (O.meaning order.old))
+            (state (rows_of self.new) h (O.meaning order.new)) }
+        ensures accepts { (h : Held LockEdge) → Accepts O.limit (Start t u) result
+            (state (rows_of self.old) h (O.meaning order.old)) }
         ensures ends { (h : Held LockEdge) → FindsEnds result
-            (state (rows_of self.old) h (meaning order.old)) }
+            (state (rows_of self.old) h (O.meaning order.old)) }
     {
         self.begin(order, t, u)
     }
 
     // Thread t has waited for thread u to end, and goes on in a new segment.
     pub fn join<O: SegmentOrder>(&mut self, order: &mut O, t: u16, u: u16) -> Result<(), EventCause>
-        ensures answers { result ≡ join_answer limit (rows_of self.old) (meaning order.old) t u }
+        ensures answers { result ≡ join_answer O.limit (rows_of self.old) (O.meaning order.old) t u }
         ensures rows { rows_of self.new
-            ≡ join_rows limit (rows_of self.old) (meaning order.old) t u }
-        ensures means { meaning order.new
-            ≡ join_order limit (rows_of self.old) (meaning order.old) t u }
+            ≡ join_rows O.limit (rows_of self.old) (O.meaning order.old) t u }
+        ensures means { O.meaning order.new
+            ≡ join_order O.limit (rows_of self.old) (O.meaning order.old) t u }
         ensures behind { (h : Held LockEdge) → Records (Join t u) result
-            (state (rows_of self.old) h (meaning order.old))
-            (state (rows_of self.new) h (meaning order.new)) }
-        ensures accepts { (h : Held LockEdge) → Accepts limit (Join t u) result
-            (state (rows_of self.old) h (meaning order.old)) }
+            (state (rows_of self.old) h (O.meaning order.old))
+            (state (rows_of self.new) h (O.meaning order.new)) }
+        ensures accepts { (h : Held LockEdge) → Accepts O.limit (Join t u) result
+            (state (rows_of self.old) h (O.meaning order.old)) }
         ensures ends { (h : Held LockEdge) → FindsEnds result
-            (state (rows_of self.old) h (meaning order.old)) }
+            (state (rows_of self.old) h (O.meaning order.old)) }
     {
         self.wait_for(order, t, u)
     }
@@ -116,17 +116,17 @@ impl Ledger {
         event: Event,
     ) -> Result<(), EventCause>
         ensures answers { result
-            ≡ answer limit (state_with self.old edges.old (meaning order.old)) event }
-        ensures leaves { state_with self.new edges.new (meaning order.new)
-            ≡ after limit (state_with self.old edges.old (meaning order.old)) event }
+            ≡ answer O.limit (state_with self.old edges.old (O.meaning order.old)) event }
+        ensures leaves { state_with self.new edges.new (O.meaning order.new)
+            ≡ after O.limit (state_with self.old edges.old (O.meaning order.old)) event }
         ensures lent { edges.new.places.ghost_name ≡ edges.old.places.ghost_name }
         ensures behind { Records event result
-            (state_with self.old edges.old (meaning order.old))
-            (state_with self.new edges.new (meaning order.new)) }
-        ensures accepts { Accepts limit event result
-            (state_with self.old edges.old (meaning order.old)) }
+            (state_with self.old edges.old (O.meaning order.old))
+            (state_with self.new edges.new (O.meaning order.new)) }
+        ensures accepts { Accepts O.limit event result
+            (state_with self.old edges.old (O.meaning order.old)) }
         ensures ends { FindsEnds result
-            (state_with self.old edges.old (meaning order.old)) }
+            (state_with self.old edges.old (O.meaning order.old)) }
     {
         self.take_in(edges, order, event)
     }

@@ -47,11 +47,11 @@ impl Ledger {
         t: u16,
         u: u16,
     ) -> Result<(), EventCause>
-        ensures answers { result ≡ start_answer limit (rows_of self.old) (meaning order.old) t u }
+        ensures answers { result ≡ start_answer O.limit (rows_of self.old) (O.meaning order.old) t u }
         ensures rows { rows_of self.new
-            ≡ start_rows limit (rows_of self.old) (meaning order.old) t u }
-        ensures means { meaning order.new
-            ≡ start_order limit (rows_of self.old) (meaning order.old) t u }
+            ≡ start_rows O.limit (rows_of self.old) (O.meaning order.old) t u }
+        ensures means { O.meaning order.new
+            ≡ start_order O.limit (rows_of self.old) (O.meaning order.old) t u }
     {
         self.check_start(t, u)?;
         let n = order.fork(self.row(t).segment)?;
@@ -65,11 +65,11 @@ impl Ledger {
         t: u16,
         u: u16,
     ) -> Result<(), EventCause>
-        ensures answers { result ≡ join_answer limit (rows_of self.old) (meaning order.old) t u }
+        ensures answers { result ≡ join_answer O.limit (rows_of self.old) (O.meaning order.old) t u }
         ensures rows { rows_of self.new
-            ≡ join_rows limit (rows_of self.old) (meaning order.old) t u }
-        ensures means { meaning order.new
-            ≡ join_order limit (rows_of self.old) (meaning order.old) t u }
+            ≡ join_rows O.limit (rows_of self.old) (O.meaning order.old) t u }
+        ensures means { O.meaning order.new
+            ≡ join_order O.limit (rows_of self.old) (O.meaning order.old) t u }
     {
         self.check_join(t, u)?;
         let n = order.meet(self.row(t).segment, self.row(u).segment)?;
@@ -84,9 +84,9 @@ impl Ledger {
         event: Event,
     ) -> Result<(), EventCause>
         ensures answers { result
-            ≡ answer limit (state_with self.old edges.old (meaning order.old)) event }
-        ensures leaves { state_with self.new edges.new (meaning order.new)
-            ≡ after limit (state_with self.old edges.old (meaning order.old)) event }
+            ≡ answer O.limit (state_with self.old edges.old (O.meaning order.old)) event }
+        ensures leaves { state_with self.new edges.new (O.meaning order.new)
+            ≡ after O.limit (state_with self.old edges.old (O.meaning order.old)) event }
         ensures lent { edges.new.places.ghost_name ≡ edges.old.places.ghost_name }
     {
         match event {

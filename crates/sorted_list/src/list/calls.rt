@@ -11,7 +11,7 @@ use crate::records::{place_of, record_at, stands_at};
 impl<'a, R: Record> SortedList<'a, R> {
     // An empty list over the places, each of which is blanked.
     pub fn open(places: &'a mut [R]) -> SortedList<'a, R>
-        ensures holds { held result ≡ opened vacant (length places.old) }
+        ensures holds { held result ≡ opened R.vacant (length places.old) }
         ensures lent { result.places.ghost_name ≡ places.entry.ghost_name }
     {
         let mut list = SortedList { places, count: 0 };
@@ -49,7 +49,7 @@ impl<'a, R: Record> SortedList<'a, R> {
 
     // Whether the list holds a record that is equal to the sought one in the order.
     pub fn contains(&self, sought: &R) -> bool
-        ensures { result ≡ present rank (held self.now).records sought.now }
+        ensures { result ≡ present R.rank (held self.now).records sought.now }
     {
         let records = self.records();
         stands_at(records, place_of(records, sought), sought)
@@ -57,8 +57,8 @@ impl<'a, R: Record> SortedList<'a, R> {
 
     // Puts an absent record at its place. A present one alters nothing, and neither does one that is refused.
     pub fn add(&mut self, new: R) -> Result<(), ListCause>
-        ensures answers { result ≡ answer rank (held self.old) new }
-        ensures holds { held self.new ≡ added rank (held self.old) new }
+        ensures answers { result ≡ answer R.rank (held self.old) new }
+        ensures holds { held self.new ≡ added R.rank (held self.old) new }
         ensures lent { self.new.places.ghost_name ≡ self.old.places.ghost_name }
     {
         let place = place_of(self.records(), &new);
@@ -74,7 +74,7 @@ impl<'a, R: Record> SortedList<'a, R> {
 
     // Blanks every place, and holds no record again.
     pub fn clear(&mut self)
-        ensures holds { held self.new ≡ opened vacant (length self.old.places.now) }
+        ensures holds { held self.new ≡ opened R.vacant (length self.old.places.now) }
         ensures lent { self.new.places.ghost_name ≡ self.old.places.ghost_name }
     {
         self.blank_all();

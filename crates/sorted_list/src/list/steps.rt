@@ -15,7 +15,7 @@ impl<R: Record> SortedList<'_, R> {
     }
 
     pub(super) fn blank_all(&mut self)
-        ensures places { self.new.places.now ≡ replicate (length self.old.places.now) vacant }
+        ensures places { self.new.places.now ≡ replicate (length self.old.places.now) R.vacant }
         ensures lent { self.new.places.ghost_name ≡ self.old.places.ghost_name }
     {
         for i in 0..self.capacity() {

@@ -7,7 +7,7 @@ pub returns : goal.returns
 returns c =
     let file = c.args.file.now in
     let short = leb-true _ _ (sym c.if-not-fits.ensures) in
-    let is = c.feed-lines.ensures in
+    let is = c.feed_lines.ensures in
     record {
       value = is ∙ fed_events file short;
       said = λ n. (λ h. (fed_said file short n).0 (sym is ∙ h), λ s. is ∙ (fed_said file short n).1 s);

@@ -8,15 +8,15 @@ use Rattle.feed.proofs.lines.first_line.Goals as goal
 pub loop-i-init : goal.loop-i-init
 loop-i-init c = within_none _
 
-pub returns-then-ends-line : goal.returns-then-ends-line
-returns-then-ends-line c =
+pub returns-then-ends_line : goal.returns-then-ends_line
+returns-then-ends_line c =
     record {
-      line = rw sub-zero (newline_first _ _ c.loop-i.invariant c.loop-i-test.true (eqb-true _ _ (sym c.if-ends-line.ensures)));
-      later = rw take_rest (newline_later _ _ c.loop-i.invariant c.loop-i-test.true (eqb-true _ _ (sym c.if-ends-line.ensures)));
+      line = rw sub-zero (newline_first _ _ c.loop-i.invariant c.loop-i-test.true (eqb-true _ _ (sym c.if-ends_line.ensures)));
+      later = rw take_rest (newline_later _ _ c.loop-i.invariant c.loop-i-test.true (eqb-true _ _ (sym c.if-ends_line.ensures)));
     }
 
 pub loop-i-preserved : goal.loop-i-preserved
-loop-i-preserved c = within_more _ _ c.loop-i.invariant c.loop-i-test.true (eqb-false _ _ (sym c.if-ends-line.ensures))
+loop-i-preserved c = within_more _ _ c.loop-i.invariant c.loop-i-test.true (eqb-false _ _ (sym c.if-ends_line.ensures))
 
 pub returns : goal.returns
 returns c =

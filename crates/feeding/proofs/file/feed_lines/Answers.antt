@@ -18,7 +18,7 @@ use Rattle.feeding.proofs.Feeding.{
 use Rattle.feed.proofs.Splitting.{later_less}
 use Rattle.feeding.proofs.file.feed_lines.Given.{Over}
 use Rattle.feeding.proofs.file.feed_lines.Goals as goal
-use Rattle.feeding.proofs.file.feed_lines.Goals.{In-loop-rest, After-take-line}
+use Rattle.feeding.proofs.file.feed_lines.Goals.{In-loop-rest, After-take_line}
 
 some : (g : Over) (c : In-loop-rest g) → 0 < length c.loop-rest.rest.now
 some g c = omega (arith, eqb-false _ _ (sym c.loop-rest-test.ensures))
@@ -26,35 +26,35 @@ some g c = omega (arith, eqb-false _ _ (sym c.loop-rest-test.ensures))
 pub loop-rest-init : goal.loop-rest-init
 loop-rest-init g c = (going _ _ _, refl)
 
-pub overflow-add-line : goal.overflow-add-line
-overflow-add-line g c = omega (arith, c.loop-rest.invariant.0.bound, some g (goal.at.overflow-add-line g c).In-loop-rest, c.requires)
+pub overflow_add-line : goal.overflow_add-line
+overflow_add-line g c = omega (arith, c.loop-rest.invariant.0.bound, some g (goal.at.overflow_add-line g c).In-loop-rest, c.requires)
 
-pub returns-in-err-at-line : goal.returns-in-err-at-line
-returns-in-err-at-line g c =
+pub returns-in_err-at_line : goal.returns-in_err-at_line
+returns-in_err-at_line g c =
     let p = err_from_is_err_and c.from-residual.result c.from-residual.ensures.1 in
     let inv = c.loop-rest.invariant in
-    let more = some g (goal.at.returns-in-err-at-line g c).In-loop-rest in
-    let at = numbered_err _ _ _ (sym c.at-line.ensures ∙ c.in-err-at-line.was) in
-    let is = sym c.take-line.ensures.answers ∙ at.1 in
-    let line = c.first-line.ensures.line in
-    let left = c.take-line.ensures.leaves in
+    let more = some g (goal.at.returns-in_err-at_line g c).In-loop-rest in
+    let at = numbered_err _ _ _ (sym c.at_line.ensures ∙ c.in_err-at_line.was) in
+    let is = sym c.take_line.ensures.answers ∙ at.1 in
+    let line = c.first_line.ensures.line in
+    let left = c.take_line.ensures.leaves in
     record {
       answers = rw (p.1, p.2, at.2) (going_fault inv.0 more line left at.0 is);
       leaves = going_left inv.0 more line left at.0 is;
-      lent = c.take-line.ensures.lent ∙ inv.1;
+      lent = c.take_line.ensures.lent ∙ inv.1;
     }
 
 pub loop-rest-smaller : goal.loop-rest-smaller
 loop-rest-smaller g c =
-    omega (arith, ap length c.first-line.ensures.later, later_less _ (some g (goal.at.loop-rest-smaller g c).In-loop-rest))
+    omega (arith, ap length c.first_line.ensures.later, later_less _ (some g (goal.at.loop-rest-smaller g c).In-loop-rest))
 
 pub loop-rest-preserved : goal.loop-rest-preserved
 loop-rest-preserved g c =
     let inv = c.loop-rest.invariant in
-    let is = sym c.take-line.ensures.answers ∙ numbered_ok _ _ _ (sym c.at-line.ensures ∙ c.in-ok-at-line.was) in (
-      going_more inv.0 (some g (goal.at.loop-rest-preserved g c).In-loop-rest) c.first-line.ensures.line
-          c.take-line.ensures.leaves c.first-line.ensures.later _ is,
-      c.take-line.ensures.lent ∙ inv.1,
+    let is = sym c.take_line.ensures.answers ∙ numbered_ok _ _ _ (sym c.at_line.ensures ∙ c.in_ok-at_line.was) in (
+      going_more inv.0 (some g (goal.at.loop-rest-preserved g c).In-loop-rest) c.first_line.ensures.line
+          c.take_line.ensures.leaves c.first_line.ensures.later _ is,
+      c.take_line.ensures.lent ∙ inv.1,
     )
 
 pub returns : goal.returns

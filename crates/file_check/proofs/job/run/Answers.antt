@@ -10,13 +10,13 @@ use Rattle.file_check.proofs.job.run.Goals.{After-feed}
 
 -- what is fed is fresh
 fresh : (g : Over) (c : After-feed g)
-    → state_with c.fresh-ledger.result c.clear.new.self (g.O.SegmentOrder.meaning c.fresh-order.result)
+    → state_with c.fresh-ledger.result c.clear.new.self (g.O.SegmentOrder.meaning c.fresh_order.result)
     ≡ fresh_state (length c.args.edges.now.places.now)
-fresh g c = λ i. state (c.fresh-ledger.ensures.rows i) (c.clear.ensures.holds i) (c.fresh-order.ensures i)
+fresh g c = λ i. state (c.fresh-ledger.ensures.rows i) (c.clear.ensures.holds i) (c.fresh_order.ensures i)
 
-pub returns-in-err-feed : goal.returns-in-err-feed
-returns-in-err-feed g c =
-    let at = (goal.at.returns-in-err-feed g c).After-feed in
+pub returns-in_err-feed : goal.returns-in_err-feed
+returns-in_err-feed g c =
+    let at = (goal.at.returns-in_err-feed g c).After-feed in
     let p = err_from_is_err_and c.from-residual.result c.from-residual.ensures.1 in
     let limit = g.O.SegmentOrder.limit in
     let edges = length c.args.edges.now.places.now in
@@ -24,7 +24,7 @@ returns-in-err-feed g c =
     let file = c.args.file.now in
     let old = held c.args.circles.now in
     let is = c.feed.ensures in
-    let was = c.in-err-feed.was in
+    let was = c.in_err-feed.was in
     record {
       answers = rw (p.1, p.2) (fault_answer limit edges c.args.budget room file old (fresh g at) is.answers is.leaves _ was);
       draws = ap (λ (s : State). s.edges) (left_is limit edges c.args.budget room file old (fresh g at) is.answers is.leaves);
@@ -41,8 +41,8 @@ returns g c =
     let file = c.args.file.now in
     let old = held c.args.circles.now in
     let is = c.feed.ensures in
-    let n = c.in-ok-feed.was in
-    let told = c.report-fed.ensures in
+    let n = c.in_ok-feed.was in
+    let told = c.report_fed.ensures in
     record {
       answers = whole_answer limit edges c.args.budget room file old (fresh g at)
           is.answers is.leaves _ n told.answers told.holds;

@@ -12,13 +12,13 @@ returns-then-k-gt-LAST c =
 pub pow-requires : goal.pow-requires
 pow-requires c = (fitting c.args.k c.args.n (omega arith) (omega arith) (omega arith)).power
 
-pub overflow-mul-below : goal.overflow-mul-below
-overflow-mul-below c =
+pub overflow_mul-below : goal.overflow_mul-below
+overflow_mul-below c =
     let f = fitting c.args.k c.args.n (omega arith) (omega arith) (omega arith) in
     record { fits = rw c.pow.ensures f.below }
 
-pub overflow-mul-factorial : goal.overflow-mul-factorial
-overflow-mul-factorial c =
+pub overflow_mul-factorial : goal.overflow_mul-factorial
+overflow_mul-factorial c =
     let f = fitting c.args.k c.args.n (omega arith) (omega arith) (omega arith) in
     record { fits = omega arith }
 

@@ -7,7 +7,7 @@ pub loop-step-preserved : goal.loop-step-preserved
 loop-step-preserved c =
     let l = c.loop-step in
     let more = at_drop_more (all_stepped (take l.at l.line)) c.args.steps.now l.step-index _ (omega arith) in
-    (rw c.put-step-at.ensures.text (sym more ∙ l.invariant.0), omega arith)
+    (rw c.put_step-at.ensures.text (sym more ∙ l.invariant.0), omega arith)
 
 pub returns : goal.returns
 returns c =

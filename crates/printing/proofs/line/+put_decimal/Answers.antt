@@ -12,18 +12,18 @@ put-requires t c = omega (arith, ap length (decimal_digit c.args.n (omega arith)
 pub returns-then-n-lt10 : goal.returns-then-n-lt10
 returns-then-n-lt10 t c = rw (decimal_digit c.args.n (omega arith)) c.put.ensures
 
-pub put-decimal-last-requires : goal.put-decimal-last-requires
-put-decimal-last-requires t c =
+pub put_decimal-last-requires : goal.put_decimal-last-requires
+put_decimal-last-requires t c =
     (omega arith, omega (arith, one_more c.args.n (omega arith) (omega arith)))
 
 pub put-requires-2 : goal.put-requires-2
 put-requires-2 t c =
-    omega (arith, c.put-decimal-last.ensures.ends, one_more c.args.n (omega arith) (omega arith))
+    omega (arith, c.put_decimal-last.ensures.ends, one_more c.args.n (omega arith) (omega arith))
 
 pub returns : goal.returns
 returns t c =
     let n = c.args.n in
-    let front = c.put-decimal-last.ensures in
+    let front = c.put_decimal-last.ensures in
     let step = decimal_step n (omega arith) (omega arith) in
     record {
       text = c.put-2.ensures.text ∙ rw (front.text, step) (append_assoc _ (decimal (n / 10)) _);

@@ -4,7 +4,7 @@ use Rattle.std.proofs.lemmas.Bool.{eqb-false}
 use Rattle.rows.specs.Circles.{smallest_first, zero_step}
 use Rattle.rows.proofs.closing.is_smallest_first.Goals as goal
 
-pub returns-else-is-empty : goal.returns-else-is-empty
-returns-else-is-empty c =
-    let some = eqb-false _ _ (sym c.if-is-empty.ensures) in
-    c.is-below.ensures ∙ sym (ap smallest_first (first_rest c.args.steps.now zero_step (omega arith)))
+pub returns-else-is_empty : goal.returns-else-is_empty
+returns-else-is_empty c =
+    let some = eqb-false _ _ (sym c.if-is_empty.ensures) in
+    c.is_below.ensures ∙ sym (ap smallest_first (first_rest c.args.steps.now zero_step (omega arith)))

@@ -3,7 +3,7 @@ use Rattle.search.proofs.calls.report.Goals as goal
 
 pub returns : goal.returns
 returns g c =
-    let is = c.list-circles.ensures in
+    let is = c.list_circles.ensures in
     record {
       answers = is.answers;
       holds = is.holds;

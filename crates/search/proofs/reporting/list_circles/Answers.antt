@@ -5,8 +5,8 @@ use Rattle.recording.specs.Replies.{reply, reported}
 use Rattle.search.proofs.Counting.{settled}
 use Rattle.search.proofs.reporting.list_circles.Goals as goal
 
-pub walk-chains-found-requires : goal.walk-chains-found-requires
-walk-chains-found-requires g c = c.empty.ensures.holds ∙ ap (opened blank_row) (sym c.empty.ensures.size)
+pub walk_chains-found-requires : goal.walk_chains-found-requires
+walk_chains-found-requires g c = c.empty.ensures.holds ∙ ap (opened blank_row) (sym c.empty.ensures.size)
 
 pub returns : goal.returns
 returns g c =
@@ -14,9 +14,9 @@ returns g c =
     let before = (g.O.SegmentOrder.meaning c.args.order.now).before in
     let budget = c.args.budget in
     let n = length c.args.circles.now.places.now in
-    let r = c.walk-chains-found.result in
-    let walk = c.walk-chains-found.ensures in
-    let left = c.walk-chains-found.new.circles in
+    let r = c.walk_chains-found.result in
+    let walk = c.walk_chains-found.ensures in
+    let left = c.walk_chains-found.new.circles in
     let size = c.empty.ensures.size in
     let is : r ≡ reply rows before budget n = walk.answers ∙ (λ i. reply (c.records.ensures i) before budget (size i)) in
     record {

@@ -34,18 +34,18 @@ loop-index-preserved g c =
     let next = c.loop-index-test.ensures in
     let take = c.take.ensures in
     let under : eqb t.chains c.args.budget ≡ false =
-    not_over t c.args.budget (sym take.answers ∙ c.in-ok-take.was) in
+    not_over t c.args.budget (sym take.answers ∙ c.in_ok-take.was) in
     let room : t.chains < c.args.budget = omega (arith, eqb-false t.chains c.args.budget under, p.spent) in (
       c.loop-index.invariant.0,
-      progresses rows before c.args.budget n c.loop-index.stack t c.loop-index.circles p c.next-chain.new.self
+      progresses rows before c.args.budget n c.loop-index.stack t c.loop-index.circles p c.next_chain.new.self
           next.more next.next next.walks c.take.new.self c.take.new.circles room
           (take.counts ∙ cond-false (eqb t.chains c.args.budget) _ _ under)
           (take.holds ∙ cond-false (eqb t.chains c.args.budget) _ _ under),
       take.lent ∙ c.loop-index.invariant.2,
     )
 
-pub returns-in-err-take : goal.returns-in-err-take
-returns-in-err-take g c =
+pub returns-in_err-take : goal.returns-in_err-take
+returns-in_err-take g c =
     let rows = c.args.rows.now in
     let before = (g.O.SegmentOrder.meaning c.args.order.now).before in
     let n = length c.args.circles.now.places.now in
@@ -54,12 +54,12 @@ returns-in-err-take g c =
     let next = c.loop-index-test.ensures in
     let take = c.take.ensures in
     let out = err_from_is_err_and c.from-residual.result c.from-residual.ensures.1 in
-    let (spent, is) = is_over t c.args.budget c.in-err-take.field-0.0 (sym take.answers ∙ c.in-err-take.was) in
+    let (spent, is) = is_over t c.args.budget c.in_err-take.field-0.0 (sym take.answers ∙ c.in_err-take.was) in
     let full = eqb-true t.chains c.args.budget spent in
     let same = take.holds ∙ cond-true (eqb t.chains c.args.budget) _ _ spent in
     record {
       answers = out.1 ∙ ap Err (out.2 ∙ is) ∙ sym (overspent rows before c.args.budget n c.loop-index.stack t c.loop-index.circles p
-          c.next-chain.new.self next.more next.next next.walks full);
+          c.next_chain.new.self next.more next.next next.walks full);
       holds = λ e. absurd (false≢true (sym e ∙ c.from-residual.ensures.0));
       size = memory_long rows before c.args.budget n c.loop-index.stack t c.loop-index.circles p c.take.new.circles same;
       lent = take.lent ∙ c.loop-index.invariant.2;

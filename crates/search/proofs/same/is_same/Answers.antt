@@ -7,5 +7,5 @@ pub returns : goal.returns
 returns c =
     let first = c.args.first.now in
     let second = c.args.second.now in
-    let is = c.is-eq.ensures ∙ ap is_eq c.compare.ensures in
+    let is = c.is_eq.ensures ∙ ap is_eq c.compare.ensures in
     (λ e. ranks_same first second (sym is ∙ e), λ e. is ∙ same_ranks first second e)

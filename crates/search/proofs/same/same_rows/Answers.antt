@@ -8,16 +8,16 @@ use Rattle.search.proofs.same.same_rows.Goals as goal
 abbrev none : CircleRow
 none = record { count = 0; steps = [] }
 
-pub returns-then-not-is-same : goal.returns-then-not-is-same
-returns-then-not-is-same c = (
+pub returns-then-not-is_same : goal.returns-then-not-is_same
+returns-then-not-is_same c = (
   (λ f. absurd (false≢true f)),
-  (λ e. sym c.if-not-is-same.true ∙ c.is-same.ensures.1 (ap (λ l. get_or l c.loop-i.i none) e)),
+  (λ e. sym c.if-not-is_same.true ∙ c.is_same.ensures.1 (ap (λ l. get_or l c.loop-i.i none) e)),
 )
 
 pub loop-i-preserved : goal.loop-i-preserved
 loop-i-preserved c =
     take_more_same _ _ _ _ c.loop-i-test.true (omega (arith, c.loop-i-test.true, c.if-first-second.false)) c.loop-i.invariant
-    (c.is-same.ensures.0 c.if-not-is-same.false)
+    (c.is_same.ensures.0 c.if-not-is_same.false)
 
 pub returns : goal.returns
 returns c =

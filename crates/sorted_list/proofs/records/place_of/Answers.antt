@@ -10,13 +10,13 @@ loop-i-init g c = (omega arith, omega arith)
 pub loop-i-preserved : goal.loop-i-preserved
 loop-i-preserved g c =
     let read = drop_read c.args.records.now c.loop-i.i _ c.loop-i-test.true c.index-records-i.is in
-    let step = place_step g.R.Record.rank _ _ _ c.args.sought.now _ read c.if-comes-before.ensures in
+    let step = place_step g.R.Record.rank _ _ _ c.args.sought.now _ read c.if-comes_before.ensures in
     (omega arith, omega arith)
 
-pub returns-else-comes-before : goal.returns-else-comes-before
-returns-else-comes-before g c =
+pub returns-else-comes_before : goal.returns-else-comes_before
+returns-else-comes_before g c =
     let read = drop_read c.args.records.now c.loop-i.i _ c.loop-i-test.true c.index-records-i.is in
-    let step = place_step g.R.Record.rank _ _ _ c.args.sought.now _ read c.if-comes-before.ensures in
+    let step = place_step g.R.Record.rank _ _ _ c.args.sought.now _ read c.if-comes_before.ensures in
     record { place = omega arith; within = omega arith }
 
 pub returns-after-loop-i : goal.returns-after-loop-i

@@ -6,4 +6,4 @@ use Rattle.text.proofs.arguments.after.Goals as goal
 
 pub returns : goal.returns
 returns c =
-    rw take_rest (past_there _ _ c.args.bytes.now (omega (arith, eqb-false _ _ (sym c.if-is-empty.ensures))) c.if-bytes-wanted.false)
+    rw take_rest (past_there _ _ c.args.bytes.now (omega (arith, eqb-false _ _ (sym c.if-is_empty.ensures))) c.if-bytes-wanted.false)

@@ -6,22 +6,22 @@ use Rattle.text.specs.Pieces.{wrong}
 use Rattle.text.proofs.Steps.{scan_byte, scan_byte_fault, scan_argument, scan_number, scan_number_fault}
 use Rattle.text.proofs.arguments.read_argument.Goals as goal
 
-pub returns-in-err-bytes : goal.returns-in-err-bytes
-returns-in-err-bytes c =
+pub returns-in_err-bytes : goal.returns-in_err-bytes
+returns-in_err-bytes c =
     let p = err_from_is_err_and c.from-residual.result c.from-residual.ensures.1 in
-    rw (p.1, p.2) (record { value = λ ps. scan_byte_fault _ _ _ _ _ c.in-err-bytes.ensures; bound = tt })
+    rw (p.1, p.2) (record { value = λ ps. scan_byte_fault _ _ _ _ _ c.in_err-bytes.ensures; bound = tt })
 
-pub returns-in-err-bytes-2 : goal.returns-in-err-bytes-2
-returns-in-err-bytes-2 c =
-    let p = err_from_is_err_and c.from-residual-in-err-bytes-2.result c.from-residual-in-err-bytes-2.ensures.1 in
-    rw (p.1, p.2) (record { value = λ ps. scan_byte _ _ _ _ _ c.in-ok-bytes.ensures ∙ scan_byte_fault _ _ _ _ _ c.in-err-bytes-2.ensures; bound = tt })
+pub returns-in_err-bytes-2 : goal.returns-in_err-bytes-2
+returns-in_err-bytes-2 c =
+    let p = err_from_is_err_and c.from-residual-in_err-bytes-2.result c.from-residual-in_err-bytes-2.ensures.1 in
+    rw (p.1, p.2) (record { value = λ ps. scan_byte _ _ _ _ _ c.in_ok-bytes.ensures ∙ scan_byte_fault _ _ _ _ _ c.in_err-bytes-2.ensures; bound = tt })
 
-pub returns-in-default : goal.returns-in-default
-returns-in-default c =
-    let none = sym c.number.ensures ∙ c.in-default.is in
+pub returns-in_default : goal.returns-in_default
+returns-in_default c =
+    let none = sym c.number.ensures ∙ c.in_default.is in
     record {
-      value = λ ps. scan_argument _ _ _ _ _ _ ps c.in-ok-bytes.ensures c.in-ok-bytes-2.ensures
-          ∙ scan_number_fault _ _ _ none ∙ ap (λ k. Err (wrong (c.args.column + 2 + k) Digit)) (sym c.wrong-digit.ensures);
+      value = λ ps. scan_argument _ _ _ _ _ _ ps c.in_ok-bytes.ensures c.in_ok-bytes-2.ensures
+          ∙ scan_number_fault _ _ _ none ∙ ap (λ k. Err (wrong (c.args.column + 2 + k) Digit)) (sym c.wrong_digit.ensures);
       bound = tt;
     }
 
@@ -29,6 +29,6 @@ pub returns : goal.returns
 returns c =
     let some = sym c.number.ensures ∙ c.in-Some.is in
     record {
-      value = λ ps. rw take_rest (scan_argument _ _ _ _ _ _ ps c.in-ok-bytes.ensures c.in-ok-bytes-2.ensures ∙ scan_number _ _ _ _ some);
+      value = λ ps. rw take_rest (scan_argument _ _ _ _ _ _ ps c.in_ok-bytes.ensures c.in_ok-bytes-2.ensures ∙ scan_number _ _ _ _ some);
       bound = search rules;
     }

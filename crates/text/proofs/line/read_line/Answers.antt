@@ -16,14 +16,14 @@ module _ (line : List ℕ) (r : Result Event LineFault) (is : r ≡ reading line
   leftmost : (f : LineFault) → r ≡ Err f → Leftmost line f.column
   leftmost f h = reading_leftmost line f (sym is ∙ h)
 
-pub returns-then-is-empty : goal.returns-then-is-empty
-returns-then-is-empty c =
-    let is = ap Err c.no-kind.ensures
-    ∙ sym (ap reading (nil_from_length c.args.line.now (eqb-true _ _ (sym c.if-is-empty.ensures)))) in
+pub returns-then-is_empty : goal.returns-then-is_empty
+returns-then-is_empty c =
+    let is = ap Err c.no_kind.ensures
+    ∙ sym (ap reading (nil_from_length c.args.line.now (eqb-true _ _ (sym c.if-is_empty.ensures)))) in
     record { value = is; said = says _ _ is; leftmost = leftmost _ _ is }
 
 pub returns : goal.returns
 returns c =
     let is = c.event.ensures
-    ∙ sym (ap reading (first_rest c.args.line.now 0 (omega (arith, eqb-false _ _ (sym c.if-is-empty.ensures))))) in
+    ∙ sym (ap reading (first_rest c.args.line.now 0 (omega (arith, eqb-false _ _ (sym c.if-is_empty.ensures))))) in
     record { value = is; said = says _ _ is; leftmost = leftmost _ _ is }

@@ -8,24 +8,24 @@ use Rattle.text.proofs.number.number.Goals.{In-loop-i}
 -- what is read so far has at most two digits
 few : (c : In-loop-i) → c.loop-i.value < 100
 few c =
-    let run = c.digit-run-digits.ensures.value in
+    let run = c.digit_run-digits.ensures.value in
     omega (arith, c.loop-i.invariant, run_few c.args.bytes.now c.loop-i.i (omega arith) (omega arith))
 
 -- the next byte is a digit
 next : (c : In-loop-i) → (48 ≤ get_or c.args.bytes.now c.loop-i.i 0) × (get_or c.args.bytes.now c.loop-i.i 0 ≤ 57) ×
     (digit_value (get_or c.args.bytes.now c.loop-i.i 0) ≡ get_or c.args.bytes.now c.loop-i.i 0 - 48)
-next c = run_digit c.args.bytes.now c.loop-i.i (omega (arith, c.digit-run-digits.ensures.value))
+next c = run_digit c.args.bytes.now c.loop-i.i (omega (arith, c.digit_run-digits.ensures.value))
 
-pub overflow-mul-value : goal.overflow-mul-value
-overflow-mul-value c = omega (arith, few c)
+pub overflow_mul-value : goal.overflow_mul-value
+overflow_mul-value c = omega (arith, few c)
 
-pub overflow-sub-bytes : goal.overflow-sub-bytes
-overflow-sub-bytes c = (next (goal.at.overflow-sub-bytes c).In-loop-i).0
+pub overflow_sub-bytes : goal.overflow_sub-bytes
+overflow_sub-bytes c = (next (goal.at.overflow_sub-bytes c).In-loop-i).0
 
-pub overflow-add-value : goal.overflow-add-value
-overflow-add-value c = let d = next (goal.at.overflow-add-value c).In-loop-i in omega (arith, few (goal.at.overflow-add-value c).In-loop-i, c.from.ensures)
+pub overflow_add-value : goal.overflow_add-value
+overflow_add-value c = let d = next (goal.at.overflow_add-value c).In-loop-i in omega (arith, few (goal.at.overflow_add-value c).In-loop-i, c.from.ensures)
 
 pub loop-i-preserved : goal.loop-i-preserved
 loop-i-preserved c =
     let d = next (goal.at.loop-i-preserved c).In-loop-i in
-    omega (arith, c.loop-i.invariant, c.from.ensures, digits_value_more 10 c.args.bytes.now c.loop-i.i (omega (arith, c.digit-run-digits.ensures)))
+    omega (arith, c.loop-i.invariant, c.from.ensures, digits_value_more 10 c.args.bytes.now c.loop-i.i (omega (arith, c.digit_run-digits.ensures)))

@@ -1,8 +1,8 @@
 use Rattle.ledger.proofs.Tables.{changed_rows, changed_counted, changed_tidy}
 use Rattle.ledger.proofs.ledger.Ledger.end.Goals as goal
 
-pub invariant-of-self : goal.invariant-of-self
-invariant-of-self c =
+pub invariant_of-self : goal.invariant_of-self
+invariant_of-self c =
     let was = c.args.self.now in
     let is = c.end.ensures in
     (changed_counted is was.counted, (changed_tidy is (was.kept c.args.u) was.kept, tt))

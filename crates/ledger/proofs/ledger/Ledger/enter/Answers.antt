@@ -8,12 +8,12 @@ pub returns : goal.returns
 returns g c =
     let limit = g.O.SegmentOrder.limit in
     let meaning = g.O.SegmentOrder.meaning in
-    let is = c.take-in.ensures in
-    let at = c.take-in.new in
+    let is = c.take_in.ensures in
+    let at = c.take_in.new in
     let before = state (rows_of c.args.self.now) (held c.args.edges.now) (meaning c.args.order.now) in
     let later = state (rows_of at.self) (held at.edges) (meaning at.order) in
     let event = c.args.event in
-    let result = c.take-in.result in
+    let result = c.take_in.result in
     record {
       answers = is.answers;
       leaves = is.leaves;

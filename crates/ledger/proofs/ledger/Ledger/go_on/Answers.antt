@@ -1,11 +1,11 @@
 use Rattle.ledger.proofs.Tables.{changed_rows, changed_counted, changed_tidy}
 use Rattle.ledger.proofs.ledger.Ledger.go_on.Goals as goal
 
-pub invariant-of-self : goal.invariant-of-self
-invariant-of-self c =
+pub invariant_of-self : goal.invariant_of-self
+invariant_of-self c =
     let was = c.args.self.now in
-    let is = c.go-on.ensures in
+    let is = c.go_on.ensures in
     (changed_counted is was.counted, (changed_tidy is (was.kept c.args.t) was.kept, tt))
 
 pub returns : goal.returns
-returns c = changed_rows c.go-on.ensures
+returns c = changed_rows c.go_on.ensures

@@ -9,7 +9,7 @@ use Rattle.ledger.proofs.ledger.Ledger.join.Goals as goal
 pub returns : goal.returns
 returns g c =
     let limit = g.O.SegmentOrder.limit in
-    let is = c.wait-for.ensures in
+    let is = c.wait_for.ensures in
     let m = g.O.SegmentOrder.meaning c.args.order.now in
     let before : Held Edge → State = λ h. state (rows_of c.args.self.now) h m in
     let event = Join c.args.t c.args.u in

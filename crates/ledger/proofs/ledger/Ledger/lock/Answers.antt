@@ -7,7 +7,7 @@ use Rattle.ledger.proofs.ledger.Ledger.lock.Goals as goal
 
 pub returns : goal.returns
 returns c =
-    let is = c.take-lock.ensures in
+    let is = c.take_lock.ensures in
     let before = state (rows_of c.args.self.now) (held c.args.edges.now) in
     let event = Lock c.args.t c.args.o in
     record {

@@ -15,11 +15,11 @@ push-requires c =
     let was = c.args.self.now in
     (c.requires.0, (c.requires.1.0, (was.counted, (was.kept, new (goal.at.push-requires c).Start))))
 
-pub invariant-of-self : goal.invariant-of-self
-invariant-of-self c =
+pub invariant_of-self : goal.invariant_of-self
+invariant_of-self c =
     let was = c.args.self.now in
     let is = c.push.ensures in
-    let more = tidy_push _ c.args.o (was.kept c.args.t) (new (goal.at.invariant-of-self c).Start) c.requires.1.0 in
+    let more = tidy_push _ c.args.o (was.kept c.args.t) (new (goal.at.invariant_of-self c).Start) c.requires.1.0 in
     (changed_counted is was.counted, (changed_tidy is more was.kept, tt))
 
 pub returns : goal.returns

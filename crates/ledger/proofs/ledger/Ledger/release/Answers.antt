@@ -6,7 +6,7 @@ use Rattle.ledger.proofs.ledger.Ledger.release.Goals as goal
 
 pub returns : goal.returns
 returns c =
-    let is = c.give-up.ensures in
+    let is = c.give_up.ensures in
     let before = state (rows_of c.args.self.now) in
     let event = Release c.args.t c.args.o in
     record {

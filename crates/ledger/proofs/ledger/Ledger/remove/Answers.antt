@@ -3,8 +3,8 @@ use Rattle.ledger.proofs.Locks.{tidy_kept}
 use Rattle.ledger.proofs.Tables.{changed_rows, changed_counted, changed_tidy}
 use Rattle.ledger.proofs.ledger.Ledger.remove.Goals as goal
 
-pub invariant-of-self : goal.invariant-of-self
-invariant-of-self c =
+pub invariant_of-self : goal.invariant_of-self
+invariant_of-self c =
     let was = c.args.self.now in
     let is = c.remove.ensures in
     let less = tidy_kept (λ x. not (eqb x c.args.o)) _ (was.kept c.args.t) in

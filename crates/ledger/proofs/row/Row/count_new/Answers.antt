@@ -4,16 +4,16 @@ use Rattle.rules.specs.Drawing.{edge_from, new_among}
 use Rattle.ledger.specs.Rows.{thread_row}
 use Rattle.ledger.proofs.Drawing.{new_more, old_more, counted_all}
 use Rattle.ledger.proofs.row.Row.count_new.Goals as goal
-use Rattle.ledger.proofs.row.Row.count_new.Goals.{then-is-new, else-is-new}
+use Rattle.ledger.proofs.row.Row.count_new.Goals.{then-is_new, else-is_new}
 
 pub loop-lock-preserved : goal.loop-lock-preserved
 loop-lock-preserved c =
     let f = edge_from (thread_row c.args.self.now) c.args.t c.args.o in
     let inv = c.loop-lock.invariant in
     let low = c.loop-lock-test.true in
-    elim c.if-is-new.branch [
-      | then-is-new w ↦ rw w.new-is (new_more f _ _ _ _ _ low w.if-is-new.ensures inv.0, omega (arith, inv.1))
-      | else-is-new w ↦ rw w.new-is (old_more f _ _ _ _ _ low w.if-is-new.ensures inv.0, omega (arith, inv.1))
+    elim c.if-is_new.branch [
+      | then-is_new w ↦ rw w.new-is (new_more f _ _ _ _ _ low w.if-is_new.ensures inv.0, omega (arith, inv.1))
+      | else-is_new w ↦ rw w.new-is (old_more f _ _ _ _ _ low w.if-is_new.ensures inv.0, omega (arith, inv.1))
     ]
 
 pub returns : goal.returns

@@ -12,7 +12,7 @@ pub loop-i-preserved : goal.loop-i-preserved
 loop-i-preserved c =
     let f = edge_from (thread_row c.args.self.now) c.args.t c.args.o in
     let inv = c.loop-i.invariant in
-    let one = c.draw-edge.ensures in
+    let one = c.draw_edge.ensures in
     (drawn_more f _ _ _ _ c.loop-i-test.true one.drawn ∙ inv.0, one.lent ∙ inv.1)
 
 pub returns : goal.returns

@@ -17,13 +17,13 @@ small c =
 pub loop-lock-init : goal.loop-lock-init
 loop-lock-init c = refl
 
-pub with-lock-set-requires : goal.with-lock-set-requires
-with-lock-set-requires c = small (goal.at.with-lock-set-requires c).In-loop-lock
+pub with_lock-set-requires : goal.with_lock-set-requires
+with_lock-set-requires c = small (goal.at.with_lock-set-requires c).In-loop-lock
 
 pub loop-lock-preserved : goal.loop-lock-preserved
 loop-lock-preserved c =
     let low = small (goal.at.loop-lock-preserved c).In-loop-lock in
-    c.with-lock-set.ensures ∙ gather_more 64 _ _ _ c.loop-lock-test.true (omega (arith, low)) c.loop-lock.invariant
+    c.with_lock-set.ensures ∙ gather_more 64 _ _ _ c.loop-lock-test.true (omega (arith, low)) c.loop-lock.invariant
 
 pub returns : goal.returns
 returns c =

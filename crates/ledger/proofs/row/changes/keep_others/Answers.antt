@@ -4,19 +4,19 @@ use Rattle.std.proofs.lemmas.List.Filters.{FiltersInPlace-more_set, FiltersInPla
 use Rattle.std.proofs.lemmas.Bool.{not_from_true, not_from_false}
 use Rattle.rules.specs.Rows.{given_up}
 use Rattle.ledger.proofs.row.changes.keep_others.Goals as goal
-use Rattle.ledger.proofs.row.changes.keep_others.Goals.{then-not-is-lock, else-not-is-lock}
+use Rattle.ledger.proofs.row.changes.keep_others.Goals.{then-not-is_lock, else-not-is_lock}
 
 pub loop-i-preserved : goal.loop-i-preserved
 loop-i-preserved c =
     let low : c.loop-i.i < length c.loop-i.locks = omega arith in
     let read = get_or_default c.loop-i.locks c.loop-i.i 0 _ low in
-    elim c.if-not-is-lock.branch [
-      | then-not-is-lock w ↦
+    elim c.if-not-is_lock.branch [
+      | then-not-is_lock w ↦
           rw (w.locks-is, w.place-is)
-          (FiltersInPlace-more_set c.loop-i.invariant low (not_from_false _ (sym w.if-not-is-lock.ensures)) read)
-      | else-not-is-lock w ↦
+          (FiltersInPlace-more_set c.loop-i.invariant low (not_from_false _ (sym w.if-not-is_lock.ensures)) read)
+      | else-not-is_lock w ↦
           rw (w.locks-is, w.place-is)
-          (FiltersInPlace-more_no c.loop-i.invariant low (not_from_true _ (sym w.if-not-is-lock.ensures)) read)
+          (FiltersInPlace-more_no c.loop-i.invariant low (not_from_true _ (sym w.if-not-is_lock.ensures)) read)
     ]
 
 pub returns : goal.returns

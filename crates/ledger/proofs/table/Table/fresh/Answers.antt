@@ -7,13 +7,13 @@ use Rattle.ledger.specs.Tables.{changed}
 use Rattle.ledger.proofs.Tables.{blank_counted, blank_tidy, changed_rows, changed_counted, changed_tidy}
 use Rattle.ledger.proofs.table.Table.fresh.Goals as goal
 
-pub begin-first-requires : goal.begin-first-requires
-begin-first-requires c = blank_counted _ c.unborn-table.ensures
+pub begin_first-requires : goal.begin_first-requires
+begin_first-requires c = blank_counted _ c.unborn-table.ensures
 
 pub returns : goal.returns
 returns c =
     let blank = c.unborn-table.ensures in
-    let is = c.begin-first.ensures in
+    let is = c.begin_first.ensures in
     let tidy = blank_tidy _ blank in
     let first : ThreadRow → ThreadRow = λ r. in_state live (in_segment 0 r) in
     record {

@@ -6,14 +6,14 @@ use Rattle.order.proofs.Clocking.{orderly, view_grown}
 use Rattle.order.proofs.Runs.{grown_orderly}
 use Rattle.order.proofs.clocks.Clocks.add.Goals as goal
 
-pub invariant-of-self : goal.invariant-of-self
-invariant-of-self c =
+pub invariant_of-self : goal.invariant_of-self
+invariant_of-self c =
     let was = c.args.self.now in
     let n = was.count in
     let he : n < length was.ends = omega arith in
     let hr : n < length was.runs = omega arith in
     let hc : n < length was.clocks = omega arith in
-    let e = view_grown n c.args.run c.args.clock was.ends _ was.runs was.clocks he hr hc c.open-end.ensures in
+    let e = view_grown n c.args.run c.args.clock was.ends _ was.runs was.clocks he hr hc c.open_end.ensures in
     let o = subst Orderly (sym e) (grown_orderly (runs_of was) c.args.run (seen_of c.args.clock) (orderly was) c.requires.1) in
     (omega arith, (o.named, (o.bounded, (o.apart, (o.last, (o.ahead, tt))))))
 
@@ -24,4 +24,4 @@ returns c =
     let he : n < length was.ends = omega arith in
     let hr : n < length was.runs = omega arith in
     let hc : n < length was.clocks = omega arith in
-    view_grown n c.args.run c.args.clock was.ends _ was.runs was.clocks he hr hc c.open-end.ensures
+    view_grown n c.args.run c.args.clock was.ends _ was.runs was.clocks he hr hc c.open_end.ensures

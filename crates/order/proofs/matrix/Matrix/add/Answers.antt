@@ -9,8 +9,8 @@ use Rattle.order.proofs.Same.{same_meaning}
 use Rattle.order.proofs.Words.{get_d_set}
 use Rattle.order.proofs.matrix.Matrix.add.Goals as goal
 
-pub invariant-of-self : goal.invariant-of-self
-invariant-of-self c =
+pub invariant_of-self : goal.invariant_of-self
+invariant_of-self c =
     let was = c.args.self.now in
     let s : was.count < length was.pasts = omega arith in (
       omega arith,
@@ -35,4 +35,4 @@ returns c =
     (λ a b. one_more was.count b (has past a) (has (get_or was.pasts b no_bits) a) _
     (λ q. rw (get_d_set was.pasts was.count b past no_bits s, eq-eqb b was.count q))
     (λ ne. rw (get_d_set was.pasts was.count b past no_bits s, ne_eqb b was.count ne)))
-    (λ a. rw (c.open-end.ensures, get_d_set was.ends was.count a true false e) (grind (arith, nat_tests)))
+    (λ a. rw (c.open_end.ensures, get_d_set was.ends was.count a true false e) (grind (arith, nat_tests)))

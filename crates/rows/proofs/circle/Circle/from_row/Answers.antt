@@ -4,8 +4,8 @@ use Rattle.rows.specs.Circles.{is_circle_row}
 use Rattle.rows.proofs.Rounds.{checked_closed, circle_same}
 use Rattle.rows.proofs.circle.Circle.from_row.Goals as goal
 
-pub invariant-of-result : goal.invariant-of-result
-invariant-of-result c = (ap is_circle_row c.checked.ensures ∙ checked_closed c.args.row, tt)
+pub invariant_of-result : goal.invariant_of-result
+invariant_of-result c = (ap is_circle_row c.checked.ensures ∙ checked_closed c.args.row, tt)
 
 pub returns : goal.returns
 returns c =

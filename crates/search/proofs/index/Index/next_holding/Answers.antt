@@ -12,8 +12,8 @@ returns-then-place-end c =
     sym (c.loop-at.invariant ∙ scanned_to rows c.args.lock c.loop-at.at c.scan-place.result scan.within.0 h
     scan.before (scan.found c.if-place-end.true))
 
-pub next-block-block-requires : goal.next-block-block-requires
-next-block-block-requires c = (
+pub next_block-block-requires : goal.next_block-block-requires
+next_block-block-requires c = (
   c.requires.0,
   in_block c.args.rows.now c.args.self.now c.requires.1 c.args.lock c.loop-at.at c.loop-at-test.true,
 )
@@ -21,22 +21,22 @@ next-block-block-requires c = (
 pub returns-then-block-ge64 : goal.returns-then-block-ge64
 returns-then-block-ge64 c =
     sym (c.loop-at.invariant ∙ gap_none c.args.rows.now c.args.self.now c.requires.1 c.args.lock c.loop-at.at
-    c.end-of-block-end.result (omega arith) c.next-block-block.result c.loop-at-test.true c.end-of-block-end.ensures
-    (λ k l h. c.scan-place.ensures.before k l (omega arith)) c.next-block-block.ensures.since
-    c.next-block-block.ensures.skips c.if-block-ge64.true)
+    c.end_of_block-end.result (omega arith) c.next_block-block.result c.loop-at-test.true c.end_of_block-end.ensures
+    (λ k l h. c.scan-place.ensures.before k l (omega arith)) c.next_block-block.ensures.since
+    c.next_block-block.ensures.skips c.if-block-ge64.true)
 
 pub loop-at-smaller : goal.loop-at-smaller
 loop-at-smaller c =
-    let on = blocks_on c.loop-at.at c.args.self.now.size c.next-block-block.result
-    (omega (arith, c.requires.1.size)) c.next-block-block.ensures.since in
+    let on = blocks_on c.loop-at.at c.args.self.now.size c.next_block-block.result
+    (omega (arith, c.requires.1.size)) c.next_block-block.ensures.since in
     omega arith
 
 pub loop-at-preserved : goal.loop-at-preserved
 loop-at-preserved c =
     c.loop-at.invariant ∙ gap_on c.args.rows.now c.args.self.now c.requires.1 c.args.lock c.loop-at.at
-    c.end-of-block-end.result (omega arith) c.next-block-block.result c.loop-at-test.true c.end-of-block-end.ensures
-    (λ k l h. c.scan-place.ensures.before k l (omega arith)) c.next-block-block.ensures.since
-    c.next-block-block.ensures.skips
+    c.end_of_block-end.result (omega arith) c.next_block-block.result c.loop-at-test.true c.end_of_block-end.ensures
+    (λ k l h. c.scan-place.ensures.before k l (omega arith)) c.next_block-block.ensures.since
+    c.next_block-block.ensures.skips
 
 pub returns : goal.returns
 returns c = sym (c.loop-at.invariant ∙ first_past (holding c.args.lock) c.args.rows.now c.loop-at.at (omega arith))

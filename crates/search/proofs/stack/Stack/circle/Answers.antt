@@ -4,8 +4,8 @@ use Rattle.search.proofs.stack.Stack.circle.Goals as goal
 
 pub loop-i-preserved : goal.loop-i-preserved
 loop-i-preserved c =
-    step_more c.args.self.now c.requires c.loop-i.steps c.loop-i.i c.step-of.result c.loop-i-test.true c.loop-i.invariant
-    c.step-of.ensures
+    step_more c.args.self.now c.requires c.loop-i.steps c.loop-i.i c.step_of.result c.loop-i-test.true c.loop-i.invariant
+    c.step_of.ensures
 
 pub returns : goal.returns
 returns c =

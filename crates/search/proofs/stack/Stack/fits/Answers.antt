@@ -3,12 +3,12 @@ use Rattle.search.specs.Stacks.{top}
 use Rattle.search.proofs.Stacking.{follows, thread_small}
 use Rattle.search.proofs.stack.Stack.fits.Goals as goal
 
-pub is-apart-requires : goal.is-apart-requires
-is-apart-requires g c =
+pub is_apart-requires : goal.is_apart-requires
+is_apart-requires g c =
     let s = c.args.self.now in
     (c.requires.some, (c.requires.stands.within, thread_small (top s).edge.wanted c.args.edge.now c.requires.holds))
 
 pub returns : goal.returns
 returns g c =
-    c.is-apart.ensures ∙ follows c.args.self.now c.requires.stands (g.O.SegmentOrder.meaning c.args.order.now).before
+    c.is_apart.ensures ∙ follows c.args.self.now c.requires.stands (g.O.SegmentOrder.meaning c.args.order.now).before
     c.args.edge.now c.requires.some c.requires.holds

@@ -30,15 +30,15 @@ module _ (test : Level → Bool) (s : Stack) (i : ℕ) (so_far : every test (dro
       ends (λ x _. test x) (every test) refl (λ _ _. refl) blank_level (stacked s) i so_far
       (omega (arith, length-take s.depth s.levels))
 
-pub returns-then-not-are-unordered : goal.returns-then-not-are-unordered
-returns-then-not-are-unordered g c =
+pub returns-then-not-are_unordered : goal.returns-then-not-are_unordered
+returns-then-not-are_unordered g c =
     one_fails (λ m. unordered (g.O.SegmentOrder.meaning c.args.order.now).before m.edge.segment c.args.segment)
-    c.args.self.now c.loop-i.i c.loop-i.invariant (search rules) c.requires.1 (omega arith) c.if-not-are-unordered.ensures
+    c.args.self.now c.loop-i.i c.loop-i.invariant (search rules) c.requires.1 (omega arith) c.if-not-are_unordered.ensures
 
 pub loop-i-preserved : goal.loop-i-preserved
 loop-i-preserved g c =
     one_passes (λ m. unordered (g.O.SegmentOrder.meaning c.args.order.now).before m.edge.segment c.args.segment)
-    c.args.self.now c.loop-i.i c.loop-i.invariant (search rules) c.requires.1 (omega arith) c.if-not-are-unordered.ensures
+    c.args.self.now c.loop-i.i c.loop-i.invariant (search rules) c.requires.1 (omega arith) c.if-not-are_unordered.ensures
 
 pub returns : goal.returns
 returns g c =

@@ -22,8 +22,8 @@ bounds-rows-place g c =
     (steps_on c.args.rows.now before c.loop-place.self c.loop-place.invariant.0 c.loop-place.from c.in-Some.place
     (sym c.in-Some.ensures)).within
 
-pub offset-bounds-rows-place : goal.offset-bounds-rows-place
-offset-bounds-rows-place g c =
+pub offset_bounds-rows-place : goal.offset_bounds-rows-place
+offset_bounds-rows-place g c =
     let before = (g.O.SegmentOrder.meaning c.args.order.now).before in
     let on = steps_on c.args.rows.now before c.loop-place.self c.loop-place.invariant.0 c.loop-place.from c.in-Some.place
     (sym c.in-Some.ensures) in
@@ -55,28 +55,28 @@ returns-in-Some g c =
           (get_or_default rows x _ blank_edge on.within) on.chain;
     }
 
-pub returns-then-is-empty : goal.returns-then-is-empty
-returns-then-is-empty g c =
+pub returns-then-is_empty : goal.returns-then-is_empty
+returns-then-is_empty g c =
     let rows = c.args.rows.now in
     let before = (g.O.SegmentOrder.meaning c.args.order.now).before in
     let s = c.loop-place.self in
     let w = c.loop-place.invariant.0 in
-    let none = eqb-true s.depth 0 (sym c.if-is-empty.ensures) in
-    let now = c.loop-place.invariant.1 ∙ steps_end rows before s w c.loop-place.from none (sym c.in-default.ensures) in
+    let none = eqb-true s.depth 0 (sym c.if-is_empty.ensures) in
+    let now = c.loop-place.invariant.1 ∙ steps_end rows before s w c.loop-place.from none (sym c.in_default.ensures) in
     record {
       more = sym (ap (λ l. ltb 0 (length l)) now);
       next = places_none rows before s w none ∙ sym (ap (λ l. get_or l 0 []) now);
       walks = w;
     }
 
-pub overflow-add-from : goal.overflow-add-from
-overflow-add-from g c =
+pub overflow_add-from : goal.overflow_add-from
+overflow_add-from g c =
     let rows = c.args.rows.now in
     let before = (g.O.SegmentOrder.meaning c.args.order.now).before in
     let s = c.loop-place.self in
     let w = c.loop-place.invariant.0 in
     let pop = c.pop-from.ensures in
-    let some : 0 < s.depth = omega (arith, eqb-false s.depth 0 (sym c.if-is-empty.ensures)) in
+    let some : 0 < s.depth = omega (arith, eqb-false s.depth 0 (sym c.if-is_empty.ensures)) in
     let at = (edge_top s w.stands c.pop-from.new.self some pop.levels pop.depth rows before w).0.0 in
     let is = pop.place in
     omega (arith, at, is)
@@ -89,9 +89,9 @@ loop-place-preserved g c =
     let s' = c.pop-from.new.self in
     let w = c.loop-place.invariant.0 in
     let pop = c.pop-from.ensures in
-    let some : 0 < s.depth = omega (arith, eqb-false s.depth 0 (sym c.if-is-empty.ensures)) in (
+    let some : 0 < s.depth = omega (arith, eqb-false s.depth 0 (sym c.if-is_empty.ensures)) in (
       walks_pop s w.stands s' some pop.levels pop.depth rows before w,
       c.loop-place.invariant.1
-          ∙ steps_back rows before s w c.loop-place.from s' some pop.levels pop.depth (sym c.in-default.ensures)
+          ∙ steps_back rows before s w c.loop-place.from s' some pop.levels pop.depth (sym c.in_default.ensures)
           ∙ ap (λ n. left_from rows before (places s' ++ (n + 1) ∷ [])) (sym pop.place),
     )

@@ -9,8 +9,8 @@ use Rattle.search.specs.Stacks.{top, edges}
 use Rattle.search.proofs.Stacking.{wanted_small, follows_holds}
 use Rattle.search.proofs.stack.Stack.next_following.Goals as goal
 
-pub next-holding-requires : goal.next-holding-requires
-next-holding-requires g c = (
+pub next_holding-requires : goal.next_holding-requires
+next_holding-requires g c = (
   wanted_small c.args.self.now c.requires.some c.args.rows.now (g.O.SegmentOrder.meaning c.args.order.now).before
       c.requires.walks,
   c.requires.indexed,
@@ -21,8 +21,8 @@ bounds-rows-place g c =
     (first_found (holding (top c.args.self.now).edge.wanted) c.args.rows.now c.loop-place.at c.in-Some.place
     (sym c.in-Some.ensures)).within
 
-pub offset-bounds-rows-place : goal.offset-bounds-rows-place
-offset-bounds-rows-place g c =
+pub offset_bounds-rows-place : goal.offset_bounds-rows-place
+offset_bounds-rows-place g c =
     let w = first_found (holding (top c.args.self.now).edge.wanted) c.args.rows.now c.loop-place.at c.in-Some.place
     (sym c.in-Some.ensures) in
     omega (arith, w.within)
@@ -38,8 +38,8 @@ fits-requires g c =
       holds = ap test (get_or_default rows c.in-Some.place _ blank_edge w.within) ∙ w.passes;
     }
 
-pub overflow-add-at : goal.overflow-add-at
-overflow-add-at g c =
+pub overflow_add-at : goal.overflow_add-at
+overflow_add-at g c =
     let w = first_found (holding (top c.args.self.now).edge.wanted) c.args.rows.now c.loop-place.at c.in-Some.place
     (sym c.in-Some.ensures) in
     omega (arith, w.within)
@@ -82,4 +82,4 @@ returns g c =
     let before = (g.O.SegmentOrder.meaning c.args.order.now).before in
     sym (c.loop-place.invariant ∙ both_none (holding (top s).edge.wanted) (may_follow before (edges s))
     (follows_holds s c.requires.walks.stands before c.requires.some) c.args.rows.now c.loop-place.at
-    (sym c.in-default.ensures))
+    (sym c.in_default.ensures))

@@ -13,8 +13,8 @@ made clock = view 1 (set (replicate 127 false) 0 true) (replicate 127 0) (replic
 zero : (clock : Clock) → clock.seen ≡ replicate 127 0 → (q : ℕ) → get_or clock.seen q 0 ≡ 0
 zero clock e q = ap (λ (l : List ℕ). get_or l q 0) e ∙ all_zero 127 q
 
-pub invariant-of-result : goal.invariant-of-result
-invariant-of-result c =
+pub invariant_of-result : goal.invariant_of-result
+invariant_of-result c =
     let clock = c.none.result in
     let o = fresh_orderly (made clock) refl refl (zero clock c.none.ensures) in
     (omega arith, (o.named, (o.bounded, (o.apart, (o.last, (o.ahead, tt))))))

@@ -9,11 +9,11 @@ use Rattle.order.proofs.Growing.{upto_within}
 use Rattle.order.proofs.Matrices.{matrix_sound}
 use Rattle.order.proofs.matrix.calls.MatrixSegmentOrder.meet.Goals as goal
 
-pub returns-in-err-n : goal.returns-in-err-n
-returns-in-err-n c =
+pub returns-in_err-n : goal.returns-in_err-n
+returns-in_err-n c =
     let m = matrix_meaning c.args.self.now in
     let p = err_from_is_err_and c.from-residual.result c.from-residual.ensures.1 in
-    let a : meet_answer 256 m c.args.x c.args.y ≡ Err c.in-err-n.field-0.0 = cc c.in-err-n.was in
+    let a : meet_answer 256 m c.args.x c.args.y ≡ Err c.in_err-n.field-0.0 = cc c.in_err-n.was in
     record { answers = cc (p.1, p.2); means = stays _ _ (met m c.args.x c.args.y) m a }
 
 pub add-requires : goal.add-requires
@@ -22,12 +22,12 @@ add-requires c =
     let m = matrix_meaning was in
     let x = c.args.x in
     let y = c.args.y in
-    let a : meet_answer 256 m x y ≡ Ok c.in-ok-n.n = cc c.in-ok-n.was in
+    let a : meet_answer 256 m x y ≡ Ok c.in_ok-n.n = cc c.in_ok-n.was in
     let fit = meet_admits 256 m x y _ a in
     let same : c.close.new.self.count ≡ was.count = ap (λ k. k.segments) c.close.ensures in
     let room : was.count + 1 ≤ 256 = fit.0 in (
       omega arith,
-      λ j h. rw same (elim (or_cases (upto m x j) (upto m y j) (sym (c.up-to-both-past.ensures j) ∙ h)) [
+      λ j h. rw same (elim (or_cases (upto m x j) (upto m y j) (sym (c.up_to_both-past.ensures j) ∙ h)) [
         | inl u ↦ upto_within (matrix_sound was) x j ((matrix_sound was).stands x fit.1) u
         | inr u ↦ upto_within (matrix_sound was) y j ((matrix_sound was).stands y fit.2) u
       ]),
@@ -36,8 +36,8 @@ add-requires c =
 pub returns : goal.returns
 returns c =
     let m = matrix_meaning c.args.self.now in
-    let a : meet_answer 256 m c.args.x c.args.y ≡ Ok c.in-ok-n.n = cc c.in-ok-n.was in
+    let a : meet_answer 256 m c.args.x c.args.y ≡ Ok c.in_ok-n.n = cc c.in_ok-n.was in
     let x = c.args.x in
     let y = c.args.y in
-    let f = meets m _ _ x y (has c.up-to-both-past.result) c.close.ensures c.add.ensures c.up-to-both-past.ensures in
+    let f = meets m _ _ x y (has c.up_to_both-past.result) c.close.ensures c.add.ensures c.up_to_both-past.ensures in
     record { answers = sym a; means = f ∙ grows _ _ (met m x y) m a }
