@@ -3,7 +3,7 @@
 use Rattle.std.proofs.Common.{◌≡◌, ℕ, ◌<◌, Bool, ◌↔◌, List, [], ◌∷◌, map, length, Ordering, Less, Equal, Greater, sym, refl, ap, ◌∙◌, subst, subst₂, inl, inr, ⊎_elim, arith}
 use mathlib.Core.List.Memᴰ
 use mathlib.Core.List.{Memᴰ}
-use Rattle.std.specs.Cmp.{nat_cmp_total}
+use Rattle.std.specs.Cmp.{nat_cmp_is}
 use Rattle.std.specs.Ordering.{ordering_then, nat_cmp}
 use Rattle.std.specs.List.{AllByRecursion as All}
 use Rattle.std.proofs.ByRecursion.{All-map, All-weaker}
@@ -96,7 +96,7 @@ module _
         let s : e.segment < f.segment = number_lt e.segment f.segment (last_less (nat_cmp e.segment f.segment) k) in
         let there = subst (λ v. WasIn ρ v f.segment) (sym (number_same e.thread f.thread t)) (drawn_was ρ okρ f g) in
         let u = to.ascends e.thread e.segment f.segment (drawn_was ρ okρ e d) there s in
-        ap (λ o. ordering_then o Equal) (sym (nat_cmp_total.says (r e.segment) (r f.segment) Less u))))))
+        ap (λ o. ordering_then o Equal) (sym (nat_cmp_is (r e.segment) (r f.segment) Less u))))))
         h
 
     moved_ascends : (es : List Edge) → All (Drawn ρ) es → Ascending rank_edge es → Ascending rank_edge (map (moved r) es)

@@ -3,7 +3,7 @@
 use Rattle.std.proofs.Common.{◌≡◌, ℕ, zero, suc, ◌+◌, ◌<◌, Bool, true, false, cond, List, [], ◌∷◌, ◌++◌, map, length, Ordering, Less, Equal, sym, refl, ap, ◌∙◌, subst, ⊎_elim, arith}
 use mathlib.Core.List.Memᴰ
 use mathlib.Core.List.{Memᴰ}
-use Rattle.std.specs.Cmp.{nat_cmp_total}
+use Rattle.std.specs.Cmp.{nat_cmp_is}
 use Rattle.std.specs.Ordering.{ordering_then}
 use Rattle.std.specs.List.{AllByRecursion as All}
 use Rattle.std.proofs.ByRecursion.{All-append, All-map}
@@ -17,10 +17,10 @@ use Rattle.std.specs.Ordering as std-orderings
 -- ---- lists of places in order
 
 number_self : (p : ℕ) → std-orderings.nat_cmp p p ≡ Equal
-number_self p = sym (nat_cmp_total.says p p Equal refl)
+number_self p = sym (nat_cmp_is p p Equal refl)
 
 number_less : (p q : ℕ) → p < q → std-orderings.nat_cmp p q ≡ Less
-number_less p q h = sym (nat_cmp_total.says p q Less h)
+number_less p q h = sym (nat_cmp_is p q Less h)
 
 behind_one : (p : ℕ) (ps qs : List ℕ) → rank_places ps qs ≡ Less → rank_places (p ∷ ps) (p ∷ qs) ≡ Less
 behind_one p ps qs h = subst (λ k. ordering_then k (rank_places ps qs) ≡ Less) (sym (number_self p)) h

@@ -1,6 +1,6 @@
 -- A circle: threads that each hold the lock which the one before them waits for.
 -- Assumes nothing.
-use Rattle.std.specs.Prelude.{◌≡◌, ℕ, ◌<◌, ◌≤◌, Bool, true, false, not, ◌&&◌, List, [], ◌∷◌, length, take, drop, replicate, ◌==◌, ◌≢◌, nat_le, nat_lt}
+use Rattle.std.specs.Prelude.{◌≡◌, ℕ, ◌<◌, ◌≤◌, Bool, true, not, ◌&&◌, List, [], ◌∷◌, length, take, drop, replicate, ◌==◌, ◌≢◌, nat_le, nat_lt}
 use Rattle.std.specs.List.{AllByRecursion as All}
 use Rattle.rows.specs.declared.row.CircleRow.{CircleRow}
 use Rattle.rows.specs.declared.step.Step.{Step}

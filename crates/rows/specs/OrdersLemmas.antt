@@ -3,10 +3,10 @@
 use Rattle.std.specs.Prelude.{◌≡◌, ℕ, List, [], ◌∷◌, map, refl}
 use Rattle.std.specs.declared.cmp.Ordering.TheVariants.{Less, Equal, Greater}
 use Rattle.std.specs.declared.cmp.Ordering.{Ordering}
-use Rattle.std.proofs.Common.{sym, ap, ◌∙◌, arith}
-use Rattle.std.specs.Cmp.Derive.{on}
-use Rattle.std.specs.Cmp.{IsTotalOrder, nat_cmp_total}
-use Rattle.std.specs.Cmp.Lexicographic.{Lex, slice_cmp, lex-says, lists_total}
+use Rattle.std.proofs.Common.{sym, arith}
+use Rattle.std.specs.Cmp.Derive.Mapped.{lex_map}
+use Rattle.std.proofs.lemmas.Cmp.{nat_cmp_total, lists_total, on_total}
+use Rattle.std.specs.Cmp.Lexicographic.{slice_cmp}
 use Rattle.std.specs.Ordering.{ordering_then, nat_cmp}
 use Rattle.std.proofs.lemmas.Bool.Decides.{nat_tests}
 use Rattle.sorted_list.specs.Orders.{TotalOrder}
@@ -16,7 +16,7 @@ use Rattle.rows.specs.declared.edge.Edge.{Edge}
 use Rattle.rows.specs.declared.row.CircleRow.{CircleRow}
 use Rattle.rows.specs.declared.step.Step.{Step}
 
-module _ {K : Type 0} {R : K → K → Ordering} (o : IsTotalOrder R) where
+module _ {K : Type 0} {R : K → K → Ordering} where
   -- equal in all places
   pub lex_same : ((x y : K) → R x y ≡ Equal → x ≡ y) → (xs ys : List K) → slice_cmp R xs ys ≡ Equal → xs ≡ ys
   lex_same same [] [] e = refl
@@ -33,14 +33,14 @@ number_same : (x y : ℕ) → nat_cmp x y ≡ Equal → x ≡ y
 number_same x y e = grind (arith, nat_tests)
 
 numbers_same : (xs ys : List ℕ) → slice_cmp nat_cmp xs ys ≡ Equal → xs ≡ ys
-numbers_same = lex_same nat_cmp_total number_same
+numbers_same = lex_same number_same
 
 pub edge_order : TotalOrder rank_edge
-edge_order = lawful (on edge_places (lists_total nat_cmp_total))
+edge_order = lawful (on_total edge_places (lists_total nat_cmp_total))
 
 pub edge_same : (e f : Edge) → rank_edge e f ≡ Equal → e ≡ f
 edge_same e f h =
-    let same = lex_same nat_cmp_total number_same (edge_places e) (edge_places f) h in
+    let same = lex_same number_same (edge_places e) (edge_places f) h in
     let t : e.thread ≡ f.thread = cc in
     let l : e.held ≡ f.held = cc in
     let w : e.wanted ≡ f.wanted = cc in
@@ -65,26 +65,12 @@ steps_same (x ∷ xs) (y ∷ ys) e =
     λ i. s i ∷ more i
 
 pub row_order : TotalOrder rank_row
-row_order = lawful (on row_places (lists_total (lists_total nat_cmp_total)))
+row_order = lawful (on_total row_places (lists_total (lists_total nat_cmp_total)))
 
 -- what the comparison of two arrays of steps answers
-abbrev steps : IsTotalOrder (λ (s z : Step) (r : Ordering). r ≡ rank_step s z)
-steps = record {
-  cmp = rank_step;
-  says = λ s z r h. h;
-  flip = (on step_places (lists_total nat_cmp_total)).flip;
-  trans = (on step_places (lists_total nat_cmp_total)).trans;
-  alike = (on step_places (lists_total nat_cmp_total)).alike;
-}
-
-lex_steps : (xs ys : List Step) → slice_cmp steps xs ys ≡ slice_cmp (slice_cmp nat_cmp) (map step_places xs) (map step_places ys)
-lex_steps [] [] = refl
-lex_steps [] (y ∷ ys) = refl
-lex_steps (x ∷ xs) [] = refl
-lex_steps (x ∷ xs) (y ∷ ys) = ap (ordering_then (rank_step x y)) (lex_steps xs ys)
-
-pub steps_ranked : (xs ys : List Step) (r : Ordering) → Lex (λ (s z : Step) (r : Ordering). r ≡ rank_step s z) xs ys r → r ≡ slice_cmp (slice_cmp nat_cmp) (map step_places xs) (map step_places ys)
-steps_ranked xs ys r h = lex-says steps xs ys r h ∙ lex_steps xs ys
+pub steps_ranked : (xs ys : List Step)
+    → slice_cmp rank_step xs ys ≡ slice_cmp (slice_cmp nat_cmp) (map step_places xs) (map step_places ys)
+steps_ranked xs ys = sym (lex_map step_places (slice_cmp nat_cmp) xs ys)
 
 pub then_equal : (o : Ordering) → o ≡ ordering_then o Equal
 then_equal Less = refl
@@ -93,7 +79,7 @@ then_equal Greater = refl
 
 pub row_same : (a b : CircleRow) → rank_row a b ≡ Equal → a ≡ b
 row_same a b h =
-    let same = lex_same (lists_total nat_cmp_total) numbers_same (row_places a) (row_places b) h in
+    let same = lex_same numbers_same (row_places a) (row_places b) h in
     let c : a.count ≡ b.count = cc in
     let s = steps_same a.steps b.steps cc in
     λ i. record { count = c i; steps = s i }

@@ -1,10 +1,11 @@
 // The steps of a circle.
-ghost use Rattle.std.specs.Prelude.{◌≡◌, Some, refl};
+ghost use Rattle.std.specs.Prelude.{◌≡◌};
+ghost use Rattle.std.proofs.Common.{rules};
+ghost use Rattle.std.specs.Cmp.{partial_order_from_own_ties};
+ghost use Rattle.std.specs.Cmp.Rules.{comparing};
+ghost use Rattle.std.specs.Ordering.{as_partial_cmp};
 ghost use Rattle.rows.specs.Circles.{is_zero};
 ghost use Rattle.rows.specs.Orders.{step_places, rank_step};
-ghost use Rattle.std.specs.Cmp.Rules.{comparing};
-ghost use Rattle.std.proofs.Common.{rules};
-ghost use Rattle.std.specs.Cmp.{partial_order_from_agreeing_total};
 
 use std::cmp::Ordering;
 
@@ -31,9 +32,9 @@ impl Step {
 }
 
 impl PartialOrd for Step {
-    ghost partial_cmp = { λ s z. Some (rank_step s z) };
+    ghost partial_cmp = { as_partial_cmp rank_step };
 
-    ghost laws = { partial_order_from_agreeing_total (λ s z. rank_step s z) (Prim.search (comparing, rules)) (λ _ _. refl) (Prim.search (comparing, rules)) };
+    ghost laws = { partial_order_from_own_ties (Prim.search (comparing, rules)) (Prim.search (comparing, rules)) };
 
     fn partial_cmp(&self, other: &Step) -> Option<Ordering> {
         Some(self.cmp(other))
@@ -41,7 +42,7 @@ impl PartialOrd for Step {
 }
 
 impl Ord for Step {
-    ghost cmp = { λ s z. rank_step s z };
+    ghost cmp = { rank_step };
 
     ghost total = { Prim.search (comparing, rules) };
 

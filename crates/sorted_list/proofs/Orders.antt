@@ -6,7 +6,7 @@ use Rattle.std.specs.Ordering.{ordering_reverse}
 use Rattle.sorted_list.specs.Orders.{TotalOrder}
 
 -- an order that is lawful in the library's words
-pub lawful : {X : Type 0} {R : X → X → Ordering → Type 0} (o : IsTotalOrder R) → TotalOrder R
+pub lawful : {X : Type 0} {R : X → X → Ordering} (o : IsTotalOrder R) → TotalOrder R
 lawful o = record { flip = o.antisymm; trans = o.trans; alike = o.congr }
 
 -- no two answers at once

@@ -1,6 +1,6 @@
 // The calls of the clocks.
 ghost use Rattle.order.specs.Clocks.{clocks_meaning};
-ghost use Rattle.std.proofs.Common.{rules, arith};
+ghost use Rattle.std.proofs.Common.{rules};
 
 use super::Clocks;
 use crate::admission::admit;
@@ -15,11 +15,11 @@ impl SegmentOrder for Clocks {
 
     ghost limit = { 127 };
 
-    ghost least = { first_of (Prim.search rules, Prim.grind (arith, Self.row.coded.inj)) };
+    ghost least = { Prim.search rules };
 
-    ghost most = { first_of (Prim.search rules, Prim.grind (arith, Self.row.coded.inj)) };
+    ghost most = { Prim.search rules };
 
-    ghost sound = { first_of (Prim.search rules, Prim.grind (arith, Self.row.coded.inj)) };
+    ghost sound = { Prim.search rules };
 
     fn fresh() -> Clocks {
         let mut ends = [false; 127];

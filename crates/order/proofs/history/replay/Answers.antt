@@ -9,7 +9,7 @@ use Rattle.order.proofs.history.replay.Goals as goal
 pub loop-call-init : goal.loop-call-init
 loop-call-init g c =
     let limit = g.O.SegmentOrder.limit in
-    ([], ap (λ (m : Meaning). replayed limit (record { order = m; arrows = [] }) c.args.calls.now) c.fresh_order.ensures)
+    ([], ap (λ (m : Meaning). replayed limit (record { order = m; arrows = [] }) c.args.calls.now) c.fresh-order.ensures)
 
 pub loop-call-preserved : goal.loop-call-preserved
 loop-call-preserved g c =

@@ -15,7 +15,7 @@ invariant_of-self c =
     let hc : n < length was.clocks = omega arith in
     let e = view_grown n c.args.run c.args.clock was.ends _ was.runs was.clocks he hr hc c.open_end.ensures in
     let o = subst Orderly (sym e) (grown_orderly (runs_of was) c.args.run (seen_of c.args.clock) (orderly was) c.requires.1) in
-    (omega arith, (o.named, (o.bounded, (o.apart, (o.last, (o.ahead, tt))))))
+    record { within = omega arith; named = o.named; bounded = o.bounded; apart = o.apart; last = o.last; ahead = o.ahead }
 
 pub returns : goal.returns
 returns c =

@@ -12,4 +12,4 @@ invariant_of-self c =
     let h : x < length was.ends = omega arith in
     let e = view_shut was.count x was.ends _ was.runs was.clocks h c.close_end.ensures in
     let o = subst Orderly (sym e) (shut_orderly (runs_of was) x (orderly was)) in
-    (was.within, (o.named, (o.bounded, (o.apart, (o.last, (o.ahead, tt))))))
+    record { within = was.within; named = o.named; bounded = o.bounded; apart = o.apart; last = o.last; ahead = o.ahead }

@@ -12,18 +12,16 @@ use Rattle.order.proofs.matrix.Matrix.add.Goals as goal
 pub invariant_of-self : goal.invariant_of-self
 invariant_of-self c =
     let was = c.args.self.now in
-    let s : was.count < length was.pasts = omega arith in (
-      omega arith,
-      (
-        (λ a b l. elim (cases_eq b was.count) [
-          | inl e ↦ rw (get_d_set was.pasts was.count b c.args.past no_bits s, eq-eqb b was.count e)
-              (λ h. rw e (c.requires.1 a h))
-          | inr ne ↦ rw (get_d_set was.pasts was.count b c.args.past no_bits s, ne_eqb b was.count ne)
-              (λ h. was.earlier a b (omega arith) h)
-        ]),
-        tt,
-      ),
-    )
+    let s : was.count < length was.pasts = omega arith in
+    record {
+      within = omega arith;
+      earlier = λ a b l. elim (cases_eq b was.count) [
+        | inl e ↦ rw (get_d_set was.pasts was.count b c.args.past no_bits s, eq-eqb b was.count e)
+            (λ h. rw e (c.requires.1 a h))
+        | inr ne ↦ rw (get_d_set was.pasts was.count b c.args.past no_bits s, ne_eqb b was.count ne)
+            (λ h. was.earlier a b (omega arith) h)
+      ];
+    }
 
 pub returns : goal.returns
 returns c =

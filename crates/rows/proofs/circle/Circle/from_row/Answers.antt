@@ -5,7 +5,7 @@ use Rattle.rows.proofs.Rounds.{checked_closed, circle_same}
 use Rattle.rows.proofs.circle.Circle.from_row.Goals as goal
 
 pub invariant_of-result : goal.invariant_of-result
-invariant_of-result c = (ap is_circle_row c.checked.ensures ∙ checked_closed c.args.row, tt)
+invariant_of-result c = record { closed = ap is_circle_row c.checked.ensures ∙ checked_closed c.args.row }
 
 pub returns : goal.returns
 returns c =

@@ -6,5 +6,5 @@ use Rattle.rows.proofs.row.CircleRowRecord.compare.Goals as goal
 pub returns : goal.returns
 returns c =
     let count = c.cmp.ensures ∙ then_equal _ in
-    let steps = steps_ranked c.args.self.now.steps c.args.other.now.steps _ c.cmp-2.ensures in
+    let steps = c.cmp-2.ensures ∙ steps_ranked c.args.self.now.steps c.args.other.now.steps in
     c.then.ensures ∙ (λ i. ordering_then (count i) (steps i))

@@ -17,7 +17,7 @@ pub invariant_of-result : goal.invariant_of-result
 invariant_of-result c =
     let clock = c.none.result in
     let o = fresh_orderly (made clock) refl refl (zero clock c.none.ensures) in
-    (omega arith, (o.named, (o.bounded, (o.apart, (o.last, (o.ahead, tt))))))
+    record { within = omega arith; named = o.named; bounded = o.bounded; apart = o.apart; last = o.last; ahead = o.ahead }
 
 pub returns : goal.returns
 returns c =

@@ -13,7 +13,7 @@ returns-in_err-n c =
     let m = clocks_meaning c.args.self.now in
     let x = c.args.x in
     let y = c.args.y in
-    let p = err_from_is_err_and c.from-residual.result c.from-residual.ensures.1 in
+    let p = err_from_is_err_and c.from_residual.result c.from_residual.ensures.1 in
     let a : meet_answer 127 m x y ≡ Err c.in_err-n.field-0.0 = cc c.in_err-n.was in
     record { answers = cc (p.1, p.2); means = stays _ _ (met m x y) m a }
 

@@ -12,7 +12,7 @@ use Rattle.order.proofs.matrix.calls.MatrixSegmentOrder.meet.Goals as goal
 pub returns-in_err-n : goal.returns-in_err-n
 returns-in_err-n c =
     let m = matrix_meaning c.args.self.now in
-    let p = err_from_is_err_and c.from-residual.result c.from-residual.ensures.1 in
+    let p = err_from_is_err_and c.from_residual.result c.from_residual.ensures.1 in
     let a : meet_answer 256 m c.args.x c.args.y ≡ Err c.in_err-n.field-0.0 = cc c.in_err-n.was in
     record { answers = cc (p.1, p.2); means = stays _ _ (met m c.args.x c.args.y) m a }
 
