@@ -48,7 +48,7 @@ impl Ledger {
         ensures behind { (m : Meaning) → Records (Lock t o) result
             (state_with self.old edges.old m)
             (state_with self.new edges.new m) }
-        ensures accepts { (O.limit : ℕ) (m : Meaning) → Accepts O.limit (Lock t o) result
+        ensures accepts { (limit : ℕ) (m : Meaning) → Accepts limit (Lock t o) result
             (state_with self.old edges.old m) }
     {
         self.take_lock(edges, t, o)
@@ -61,7 +61,7 @@ impl Ledger {
         ensures behind { (h : Held LockEdge) (m : Meaning) → Records (Release t o) result
             (state (rows_of self.old) h m)
             (state (rows_of self.new) h m) }
-        ensures accepts { (O.limit : ℕ) (h : Held LockEdge) (m : Meaning) → Accepts O.limit (Release t o) result
+        ensures accepts { (limit : ℕ) (h : Held LockEdge) (m : Meaning) → Accepts limit (Release t o) result
             (state (rows_of self.old) h m) }
     {
         self.give_up(t, o)

@@ -20,7 +20,7 @@ invariant_of-self c =
     let was = c.args.self.now in
     let is = c.push.ensures in
     let more = tidy_push _ c.args.o (was.kept c.args.t) (new (goal.at.invariant_of-self c).Start) c.requires.1.0 in
-    (changed_counted is was.counted, (changed_tidy is more was.kept, tt))
+    record { counted = changed_counted is was.counted; kept = changed_tidy is more was.kept }
 
 pub returns : goal.returns
 returns c = changed_rows c.push.ensures

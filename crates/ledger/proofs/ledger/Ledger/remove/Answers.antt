@@ -8,7 +8,7 @@ invariant_of-self c =
     let was = c.args.self.now in
     let is = c.remove.ensures in
     let less = tidy_kept (λ x. not (eqb x c.args.o)) _ (was.kept c.args.t) in
-    (changed_counted is was.counted, (changed_tidy is less was.kept, tt))
+    record { counted = changed_counted is was.counted; kept = changed_tidy is less was.kept }
 
 pub returns : goal.returns
 returns c = changed_rows c.remove.ensures
