@@ -7,7 +7,7 @@ use Rattle.text.proofs.Results.{ok_or_err, ok_same, err_same}
 use Rattle.feed.specs.declared.fault.Fault.{Fault}
 use Rattle.feed.specs.Files.{events_from, events, counted, Says, FirstFault}
 use Rattle.feed.specs.Lines.{lines}
-use Rattle.feed.proofs.Faults.{Stops, stops}
+use Rattle.feed.proofs.Faults.{stops}
 use Rattle.feed.proofs.Said.{events_said}
 
 module _ (file : List ℕ) (short : length file ≤ 60000) where

@@ -5,7 +5,7 @@ use mathlib.Core.List.Memᴰ
 use mathlib.Core.List.{Memᴰ}
 use Rattle.std.specs.Cmp.{nat_cmp_is}
 use Rattle.std.specs.Ordering.{ordering_then, nat_cmp}
-use Rattle.std.specs.List.{AllByRecursion as All}
+use Rattle.std.specs.List.{AllByRecursion}
 use Rattle.std.proofs.ByRecursion.{All-map, All-weaker}
 use Rattle.std.proofs.lemmas.List.{length-map, get_or-map}
 use Rattle.std.proofs.lemmas.Bool.{cases_eq, ne_eqb}
@@ -99,7 +99,7 @@ module _
         ap (λ o. ordering_then o Equal) (sym (nat_cmp_is (r e.segment) (r f.segment) Less u))))))
         h
 
-    moved_ascends : (es : List Edge) → All (Drawn ρ) es → Ascending rank_edge es → Ascending rank_edge (map (moved r) es)
+    moved_ascends : (es : List Edge) → AllByRecursion (Drawn ρ) es → Ascending rank_edge es → Ascending rank_edge (map (moved r) es)
     moved_ascends [] d up = tt
     moved_ascends (e ∷ es) d up = (
       All-map (λ y. rank_edge (moved r e) y ≡ Less) (moved r) es

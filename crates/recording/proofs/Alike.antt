@@ -3,7 +3,7 @@
 use Rattle.std.proofs.Common.{◌≡◌, ℕ, zero, suc, Bool, cond, not, ◌&&◌, eqb, ltb, List, [], ◌∷◌, ◌++◌, map, length, sym, refl, ap, ◌∙◌}
 use mathlib.Core.List.{Memᴰ}
 use lib.Bits.{bit_and}
-use Rattle.std.specs.List.{AllByRecursion as All}
+use Rattle.std.specs.List.{AllByRecursion}
 use Rattle.std.proofs.lemmas.List.{length-map}
 use Rattle.rows.specs.Circles.{every}
 use Rattle.rows.specs.Edges.{is_edge}
@@ -21,7 +21,7 @@ module _ (r : ℕ → ℕ) where
 
   branches_alike : (test : Edge → Bool) (on : Edge → List (List ℕ)) (test' : Edge → Bool) (on' : Edge → List (List ℕ))
       (p : ℕ) (es : List Edge)
-      → All (λ e. (test e ≡ test' (moved e)) × (on e ≡ on' (moved e))) es
+      → AllByRecursion (λ e. (test e ≡ test' (moved e)) × (on e ≡ on' (moved e))) es
       → branches test on p es ≡ branches test' on' p (map moved es)
   branches_alike test on test' on' p [] h = refl
   branches_alike test on test' on' p (e ∷ es) h =
@@ -60,7 +60,7 @@ module _ (r : ℕ → ℕ) where
           let b = alike f e n m in
           λ i. not (eqb e.thread f.thread) && (eqb (bit_and e.guards f.guards) 0 && (not (a i) && not (b i)))
 
-      every_alike : (path : List Edge) → All (λ e. Memᴰ e rows) path → (f : Edge) → Memᴰ f rows
+      every_alike : (path : List Edge) → AllByRecursion (λ e. Memᴰ e rows) path → (f : Edge) → Memᴰ f rows
           → every (λ e. apart first e f) path ≡ every (λ e. apart second e (moved f)) (map moved path)
       every_alike [] h f n = refl
       every_alike (e ∷ path) h f n =
@@ -68,13 +68,13 @@ module _ (r : ℕ → ℕ) where
           let more = every_alike path h.1 f n in
           λ i. a i && more i
 
-      fits_alike : (least wanted : ℕ) (path : List Edge) → All (λ e. Memᴰ e rows) path → (f : Edge) → Memᴰ f rows
+      fits_alike : (least wanted : ℕ) (path : List Edge) → AllByRecursion (λ e. Memᴰ e rows) path → (f : Edge) → Memᴰ f rows
           → fits first least wanted path f ≡ fits second least wanted (map moved path) (moved f)
       fits_alike least wanted path h f n =
           let e = every_alike path h f n in
           λ i. is_edge f && (eqb wanted f.held && (e i && ltb least f.thread))
 
-      on_alike : (n least wanted : ℕ) (path : List Edge) → All (λ e. Memᴰ e rows) path
+      on_alike : (n least wanted : ℕ) (path : List Edge) → AllByRecursion (λ e. Memᴰ e rows) path
           → goes_on n rows first least wanted path ≡ goes_on n (map moved rows) second least wanted (map moved path)
       on_alike zero least wanted path h = refl
       on_alike (suc n) least wanted path h =

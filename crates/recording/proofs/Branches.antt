@@ -4,22 +4,21 @@ use Rattle.std.proofs.Common.{◌≡◌, ℕ, zero, suc, ◌+◌, ◌<◌, Bool,
 use mathlib.Core.List.Memᴰ
 use mathlib.Core.List.{Memᴰ}
 use Rattle.std.specs.Cmp.{nat_cmp_is}
-use Rattle.std.specs.Ordering.{ordering_then}
-use Rattle.std.specs.List.{AllByRecursion as All}
+use Rattle.std.specs.Ordering.{ordering_then, nat_cmp}
+use Rattle.std.specs.List.{AllByRecursion}
 use Rattle.std.proofs.ByRecursion.{All-append, All-map}
 use Rattle.std.proofs.lemmas.Bool.{cond-true, cond_both}
 use Rattle.sorted_list.specs.Laws.{Ascending}
 use Rattle.rows.specs.declared.edge.Edge.{Edge}
 use Rattle.recording.specs.Enumeration.{row_at, branches, rank_places}
 use Rattle.recording.proofs.Members.{all_from}
-use Rattle.std.specs.Ordering as std-orderings
 
 -- ---- lists of places in order
 
-number_self : (p : ℕ) → std-orderings.nat_cmp p p ≡ Equal
+number_self : (p : ℕ) → nat_cmp p p ≡ Equal
 number_self p = sym (nat_cmp_is p p Equal refl)
 
-number_less : (p q : ℕ) → p < q → std-orderings.nat_cmp p q ≡ Less
+number_less : (p q : ℕ) → p < q → nat_cmp p q ≡ Less
 number_less p q h = sym (nat_cmp_is p q Less h)
 
 behind_one : (p : ℕ) (ps qs : List ℕ) → rank_places ps qs ≡ Less → rank_places (p ∷ ps) (p ∷ qs) ≡ Less
@@ -29,7 +28,7 @@ behind_less : (p q : ℕ) (ps qs : List ℕ) → p < q → rank_places (p ∷ ps
 behind_less p q ps qs h = ap (λ k. ordering_then k (rank_places ps qs)) (number_less p q h)
 
 pub ascending_append : {X : Type 0} (rank : X → X → Ordering) (xs ys : List X) → Ascending rank xs → Ascending rank ys
-    → All (λ x. All (λ y. rank x y ≡ Less) ys) xs → Ascending rank (xs ++ ys)
+    → AllByRecursion (λ x. AllByRecursion (λ y. rank x y ≡ Less) ys) xs → Ascending rank (xs ++ ys)
 ascending_append rank [] ys a b c = b
 ascending_append rank (x ∷ xs) ys a b c =
     (All-append (λ y. rank x y ≡ Less) xs ys a.0 c.0, ascending_append rank xs ys a.1 b c.1)
@@ -41,19 +40,19 @@ ascending_behind p (x ∷ xs) a = (
   ascending_behind p xs a.1,
 )
   where
-    first : (ys : List (List ℕ)) → All (λ y. rank_places x y ≡ Less) ys → All (λ y. rank_places (p ∷ x) (p ∷ y) ≡ Less) ys
+    first : (ys : List (List ℕ)) → AllByRecursion (λ y. rank_places x y ≡ Less) ys → AllByRecursion (λ y. rank_places (p ∷ x) (p ∷ y) ≡ Less) ys
     first [] h = tt
     first (y ∷ ys) h = (behind_one p x y h.0, first ys h.1)
 
 module _ (test : Edge → Bool) (on : Edge → List (List ℕ)) where
   -- ---- branches in order
 
-  above : (p : ℕ) (ps : List ℕ) (q : ℕ) (es : List Edge) → p < q → All (λ qs. rank_places (p ∷ ps) qs ≡ Less) (branches test on q es)
+  above : (p : ℕ) (ps : List ℕ) (q : ℕ) (es : List Edge) → p < q → AllByRecursion (λ qs. rank_places (p ∷ ps) qs ≡ Less) (branches test on q es)
   above p ps q [] h = tt
   above p ps q (e ∷ es) h =
       let After : List ℕ → Type 0 = λ qs. rank_places (p ∷ ps) qs ≡ Less in
       All-append After (cond (test e) (map (λ qs. q ∷ qs) (on e)) []) (branches test on (suc q) es)
-      (cond_both (test e) (map (λ qs. q ∷ qs) (on e)) [] (All After)
+      (cond_both (test e) (map (λ qs. q ∷ qs) (on e)) [] (AllByRecursion After)
       (λ _. All-map After (λ qs. q ∷ qs) (on e) (all_from (λ qs. After (q ∷ qs)) (on e) (λ qs _. behind_less p q ps qs h)))
       (λ _. tt))
       (above p ps (suc q) es (omega arith))
@@ -63,11 +62,11 @@ module _ (test : Edge → Bool) (on : Edge → List (List ℕ)) where
   branches_ascend up p [] = tt
   branches_ascend up p (e ∷ es) =
       let rest = branches test on (suc p) es in
-      let Below : List ℕ → Type 0 = λ x. All (λ y. rank_places x y ≡ Less) rest in
+      let Below : List ℕ → Type 0 = λ x. AllByRecursion (λ y. rank_places x y ≡ Less) rest in
       ascending_append rank_places (cond (test e) (map (λ qs. p ∷ qs) (on e)) []) rest
       (cond_both (test e) (map (λ qs. p ∷ qs) (on e)) [] (Ascending rank_places) (λ _. ascending_behind p (on e) (up e)) (λ _. tt))
       (branches_ascend up (suc p) es)
-      (cond_both (test e) (map (λ qs. p ∷ qs) (on e)) [] (All Below)
+      (cond_both (test e) (map (λ qs. p ∷ qs) (on e)) [] (AllByRecursion Below)
       (λ _. All-map Below (λ qs. p ∷ qs) (on e) (all_from (λ qs. Below (p ∷ qs)) (on e) (λ qs _. above p qs (suc p) es (omega arith))))
       (λ _. tt))
 

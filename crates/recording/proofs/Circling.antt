@@ -15,7 +15,7 @@ use Rattle.recording.specs.Ledger.{Accepted, HoldsNow}
 use Rattle.recording.specs.Edges.{Guards, DrawnIn}
 use Rattle.recording.specs.EdgeList.{holds_now, gather, edge_drawn}
 use Rattle.rows.specs.Edges.{In}
-use Rattle.std.specs.List.{AllByRecursion as All}
+use Rattle.std.specs.List.{AllByRecursion}
 use Rattle.rows.specs.Circles.{Linked, IsCircle, Apart as ThreadsApart}
 use Rattle.recording.specs.Chains.{Pairwise, Apart, wanted_at_last, step, Closes}
 use Rattle.recording.proofs.Prefixes.{◌⊑◌, ⊑_size, ⊑_init, ⊑_trans, ⊑_order, ▸_right, accepted_init, event_at, Found, found}
@@ -150,26 +150,26 @@ module _ (ρ : Recording) (acc : Accepted ρ) (W : ℕ → Type 0) (halted : ℕ
           shows.apart s z w.member x.member ne l ((held_at_halt w.stood l).1 (((guards_there s w).1 l).0 a))
           ((held_at_halt x.stood l).1 (((guards_there z x).1 l).0 b))
 
-  abbrev edges : (zs : List Step) → All Waiting zs → List Edge
+  abbrev edges : (zs : List Step) → AllByRecursion Waiting zs → List Edge
   edges [] ws = []
   edges (z ∷ zs) ws = edge z ws.0 ∷ edges zs ws.1
 
-  edges_drawn : (zs : List Step) (ws : All Waiting zs) → All (DrawnIn ρ W) (edges zs ws)
+  edges_drawn : (zs : List Step) (ws : AllByRecursion Waiting zs) → AllByRecursion (DrawnIn ρ W) (edges zs ws)
   edges_drawn [] ws = tt
   edges_drawn (z ∷ zs) ws = (drawn_there z ws.0, edges_drawn zs ws.1)
 
-  edges_linked : (wanted : ℕ) (zs : List Step) (ws : All Waiting zs) (last : ℕ) → Linked wanted zs last
+  edges_linked : (wanted : ℕ) (zs : List Step) (ws : AllByRecursion Waiting zs) (last : ℕ) → Linked wanted zs last
       → Linked wanted (map step (edges zs ws)) (wanted_at_last wanted (map step (edges zs ws))) ×
       (wanted_at_last wanted (map step (edges zs ws)) ≡ last)
   edges_linked wanted [] ws last h = (refl, h)
   edges_linked wanted (z ∷ zs) ws last h = let k = edges_linked z.wanted zs ws.1 last h.1 in ((h.0, k.0), k.1)
 
   edges_all : (P : Step → Type 0) (Q : Edge → Type 0) → ((z : Step) (x : Waiting z) → P z → Q (edge z x))
-      → (zs : List Step) (ws : All Waiting zs) → All P zs → All Q (edges zs ws)
+      → (zs : List Step) (ws : AllByRecursion Waiting zs) → AllByRecursion P zs → AllByRecursion Q (edges zs ws)
   edges_all P Q f [] ws h = tt
   edges_all P Q f (z ∷ zs) ws h = (f z ws.0 h.0, edges_all P Q f zs ws.1 h.1)
 
-  edges_pairwise : (zs : List Step) (ws : All Waiting zs) → ThreadsApart zs → Pairwise (Apart (Parallel ρ)) (edges zs ws)
+  edges_pairwise : (zs : List Step) (ws : AllByRecursion Waiting zs) → ThreadsApart zs → Pairwise (Apart (Parallel ρ)) (edges zs ws)
   edges_pairwise [] ws h = tt
   edges_pairwise (z ∷ zs) ws h = (
     edges_all (λ b. z.thread ≡ b.thread → ⊥) (Apart (Parallel ρ) (edge z ws.0))
@@ -177,11 +177,11 @@ module _ (ρ : Recording) (acc : Accepted ρ) (W : ℕ → Type 0) (halted : ℕ
     edges_pairwise zs ws.1 h.1,
   )
 
-  edges_give : (zs : List Step) (ws : All Waiting zs) → map step (edges zs ws) ≡ zs
+  edges_give : (zs : List Step) (ws : AllByRecursion Waiting zs) → map step (edges zs ws) ≡ zs
   edges_give [] ws = refl
   edges_give (z ∷ zs) ws = ap (λ r. z ∷ r) (edges_give zs ws.1)
 
-  closes : (d : List Step) → IsCircle d → 2 ≤ length d → All Waiting d → Closes (DrawnIn ρ W) (Parallel ρ) d
+  closes : (d : List Step) → IsCircle d → 2 ≤ length d → AllByRecursion Waiting d → Closes (DrawnIn ρ W) (Parallel ρ) d
   closes [] h two ws = absurd (omega arith)
   closes (s ∷ []) h two ws = absurd h
   closes (s ∷ z ∷ zs) h two ws = let k = edges_linked s.wanted (z ∷ zs) ws.1 s.held h.0 in record {

@@ -15,7 +15,6 @@ use Rattle.rows.specs.declared.event.Event.TheVariants.{Lock, Release, Start, Jo
 use Rattle.rows.specs.OrdersLemmas.{edge_order, edge_same}
 use Rattle.recording.specs.Recording.{Recording, none, ◌▸◌, size}
 use Rattle.recording.specs.Ledger.{Accepted}
-use Rattle.recording.specs.Segments.{segment}
 use Rattle.recording.specs.Edges.{Draws, DrawnAt, Drawn}
 use Rattle.recording.specs.EdgeList.{holds_now, passing, edge_drawn, edges_drawn, all_drawn, edge_list, EdgesAreListed}
 use Rattle.recording.proofs.Prefixes.{⊑_init, accepted_init}

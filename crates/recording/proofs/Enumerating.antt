@@ -5,7 +5,7 @@ use mathlib.Core.List.Memᴰ
 use mathlib.Core.List.{Memᴰ}
 use lib.Bits.{bit_and}
 use Rattle.std.specs.Cmp.{nat_cmp_total}
-use Rattle.std.specs.List.{AllByRecursion as All}
+use Rattle.std.specs.List.{AllByRecursion}
 use Rattle.std.proofs.ByRecursion.{All-weaker, Decides-by_and}
 use Rattle.std.proofs.lemmas.Bool.{not-true, not_from_false}
 use Rattle.std.proofs.lemmas.Bool.Decides.{Decides-eqb, Decides-ltb, Decides-not, Decides-and, Decides-like}
@@ -54,7 +54,7 @@ module _ (rows : List Edge) (precedes : ℕ → ℕ → Bool) where
 
   abbrev pub Fits : ℕ → ℕ → List Edge → Edge → Type 0
   Fits least wanted path f =
-      (is_edge f ≡ true) × ((wanted ≡ f.held) × (All (λ e. Apart (Unordered precedes) e f) path × (least < f.thread)))
+      (is_edge f ≡ true) × ((wanted ≡ f.held) × (AllByRecursion (λ e. Apart (Unordered precedes) e f) path × (least < f.thread)))
 
   pub fits_decides : (least wanted : ℕ) (path : List Edge) (f : Edge)
       → Decides (fits precedes least wanted path f) (Fits least wanted path f)
@@ -113,11 +113,11 @@ module _ (rows : List Edge) (precedes : ℕ → ℕ → Bool) where
   edges = map (row_at rows)
 
   record On (least wanted : ℕ) (path : List Edge) (qs : List ℕ) : Type 0 where
-    valid : All (EdgeAt rows) qs
+    valid : AllByRecursion (EdgeAt rows) qs
     linked : Linked wanted (map step (edges qs)) (wanted_at_last wanted (map step (edges qs)))
-    earlier : All (λ f. All (λ e. Apart (Unordered precedes) e f) path) (edges qs)
+    earlier : AllByRecursion (λ f. AllByRecursion (λ e. Apart (Unordered precedes) e f) path) (edges qs)
     apart_all : Pairwise (Apart (Unordered precedes)) (edges qs)
-    smallest : All (λ f. least < f.thread) (edges qs)
+    smallest : AllByRecursion (λ f. least < f.thread) (edges qs)
 
   on_all : (least wanted : ℕ) (path : List Edge) (qs : List ℕ) → GoesOn least wanted path qs → On least wanted path qs
   on_all least wanted path [] g = record { valid = tt; linked = refl; earlier = tt; apart_all = tt; smallest = tt }
@@ -127,7 +127,7 @@ module _ (rows : List Edge) (precedes : ℕ → ℕ → Bool) where
       record {
         valid = ((within, is), o.valid);
         linked = (link, o.linked);
-        earlier = (far, All-weaker _ (λ x. All (λ e. Apart (Unordered precedes) e x) path) (λ x h. h.1) (edges qs) o.earlier);
+        earlier = (far, All-weaker _ (λ x. AllByRecursion (λ e. Apart (Unordered precedes) e x) path) (λ x h. h.1) (edges qs) o.earlier);
         apart_all = (All-weaker _ (Apart (Unordered precedes) f) (λ x h. h.0) (edges qs) o.earlier, o.apart_all);
         smallest = (less, o.smallest);
       }
@@ -141,7 +141,7 @@ module _ (rows : List Edge) (precedes : ℕ → ℕ → Bool) where
         all_on least f.wanted (f ∷ path) qs (record {
           valid = o.valid.1;
           linked = o.linked.1;
-          earlier = all_both (Apart (Unordered precedes) f) (λ x. All (λ e. Apart (Unordered precedes) e x) path) (edges qs)
+          earlier = all_both (Apart (Unordered precedes) f) (λ x. AllByRecursion (λ e. Apart (Unordered precedes) e x) path) (edges qs)
               o.apart_all.0 o.earlier.1;
           apart_all = o.apart_all.1;
           smallest = o.smallest.1;
@@ -176,7 +176,7 @@ module _ (rows : List Edge) (precedes : ℕ → ℕ → Bool) where
         all_on e.thread e.wanted (e ∷ []) ps (record {
           valid = valid.1;
           linked = c.linked;
-          earlier = All-weaker (Apart (Unordered precedes) e) (λ f. All (λ x. Apart (Unordered precedes) x f) (e ∷ [])) (λ f h. (h, tt))
+          earlier = All-weaker (Apart (Unordered precedes) e) (λ f. AllByRecursion (λ x. Apart (Unordered precedes) x f) (e ∷ [])) (λ f h. (h, tt))
               (edges ps) c.apart.0;
           apart_all = c.apart.1;
           smallest = c.smallest;
@@ -197,7 +197,7 @@ module _ (rows : List Edge) (precedes : ℕ → ℕ → Bool) where
   places_differ [] h = tt
   places_differ (q ∷ qs) h = (others qs h.0, places_differ qs h.1)
     where
-      others : (ps : List ℕ) → All (Apart (Unordered precedes) (row_at rows q)) (edges ps) → All (λ p. q ≡ p → ⊥) ps
+      others : (ps : List ℕ) → AllByRecursion (Apart (Unordered precedes) (row_at rows q)) (edges ps) → AllByRecursion (λ p. q ≡ p → ⊥) ps
       others [] k = tt
       others (p ∷ ps) k = (λ e. k.0.0 (ap (λ x. (row_at rows x).thread) e), others ps k.1)
 

@@ -1,8 +1,8 @@
 -- A report that adds the circles of the chains one by one, and remembers whether one found no place, comes to the answer.
 -- Assumes nothing.
-use Rattle.std.proofs.Common.{◌≡◌, ℕ, suc, ◌+◌, ◌-◌, ◌<◌, ◌≤◌, Bool, true, false, cond, ◌&&◌, ◌||◌, ltb, List, [], ◌∷◌, ◌++◌, length, get_or, take, replicate, Ok, Err, Result, Ordering, sym, refl, ap, ◌∙◌, subst, ⊎_elim, arith}
+use Rattle.std.proofs.Common.{◌≡◌, ℕ, suc, ◌+◌, ◌-◌, ◌<◌, ◌≤◌, Bool, true, false, cond, ◌&&◌, ◌||◌, ltb, List, [], ◌∷◌, ◌++◌, length, get_or, take, replicate, Ok, Err, Ordering, sym, refl, ap, ◌∙◌, ⊎_elim, arith}
 use Rattle.std.proofs.lemmas.List.{take_more, take_all, append-nil}
-use Rattle.std.proofs.lemmas.Bool.{cond_both, cond-true, cond-false, or_parts, lt-ltb, le-ltb, cases_lt, cases_Bool, false≢true}
+use Rattle.std.proofs.lemmas.Bool.{cond-true, cond-false, or_parts, lt-ltb, le-ltb, cases_lt}
 use Rattle.sorted_list.specs.Lists.{Held, opened, added, refused}
 use Rattle.sorted_list.specs.Laws.{filled, accepted}
 use Rattle.sorted_list.proofs.Filling.{fills}
@@ -12,8 +12,6 @@ use Rattle.rows.specs.declared.edge.Edge.{Edge}
 use Rattle.rows.specs.declared.row.CircleRow.{CircleRow}
 use Rattle.rows.specs.declared.step.Step.{Step}
 use Rattle.rows.specs.OrdersLemmas.{row_order}
-use Rattle.recording.specs.declared.answer.Answer.{Answer}
-use Rattle.recording.specs.declared.cause.SearchCause.{SearchCause}
 use Rattle.recording.specs.declared.cause.SearchCause.TheVariants.{Budget, Places}
 use Rattle.recording.specs.Enumeration.{chains}
 use Rattle.recording.specs.Answers.{steps_at, closed, circle_row, circles_given, circles}

@@ -3,16 +3,16 @@
 use Rattle.std.proofs.Common.{◌≡◌, ℕ, zero, suc, ◌<◌, ◌⊎◌, List, [], ◌∷◌, length, get_or, sym, refl, ◌∙◌, subst, inl, inr, ⊎_elim, arith}
 use mathlib.Core.List.Memᴰ
 use mathlib.Core.List.{Memᴰ}
-use Rattle.std.specs.List.{AllByRecursion as All}
+use Rattle.std.specs.List.{AllByRecursion}
 use Rattle.sorted_list.proofs.Members.{all_member}
 use Rattle.recording.specs.Chains.{Pairwise}
 
 module _ {A : Type 0} where
-  pub all_from : (P : A → Type 0) (xs : List A) → ((x : A) → Memᴰ x xs → P x) → All P xs
+  pub all_from : (P : A → Type 0) (xs : List A) → ((x : A) → Memᴰ x xs → P x) → AllByRecursion P xs
   all_from P [] h = tt
   all_from P (x ∷ xs) h = (h x (Memᴰ.head refl), all_from P xs (λ y m. h y (Memᴰ.tail m)))
 
-  pub all_both : (P Q : A → Type 0) (xs : List A) → All P xs → All Q xs → All (λ x. P x × Q x) xs
+  pub all_both : (P Q : A → Type 0) (xs : List A) → AllByRecursion P xs → AllByRecursion Q xs → AllByRecursion (λ x. P x × Q x) xs
   all_both P Q [] h k = tt
   all_both P Q (x ∷ xs) h k = ((h.0, k.0), all_both P Q xs h.1 k.1)
 
@@ -51,22 +51,22 @@ module _ {A : Type 0} where
       go (no np) (no nw) = no (λ w. ⊎_elim (λ e. np (subst P e w.2)) (λ m. nw (w.0, m, w.2)) (Memᴰ.cases_cons w.1))
 
   -- The members with what is known of each.
-  abbrev pub pairs : (P : A → Type 0) (xs : List A) → All P xs → List ((x : A) × P x)
+  abbrev pub pairs : (P : A → Type 0) (xs : List A) → AllByRecursion P xs → List ((x : A) × P x)
   pairs P [] h = []
   pairs P (x ∷ xs) h = (x, h.0) ∷ pairs P xs h.1
 
-  pub pairs_at : (P : A → Type 0) (xs : List A) (h : All P xs) {x : A} → Memᴰ x xs
+  pub pairs_at : (P : A → Type 0) (xs : List A) (h : AllByRecursion P xs) {x : A} → Memᴰ x xs
       → (w : (y : A) × P y) × Memᴰ w (pairs P xs h) × (x ≡ w.0)
   pairs_at P [] h m = absurd (Memᴰ.not-nil m)
   pairs_at P (y ∷ ys) h m =
       ⊎_elim (λ e. ((y, h.0), Memᴰ.head refl, e))
       (λ n. let w = pairs_at P ys h.1 n in (w.0, Memᴰ.tail w.1, w.2)) (Memᴰ.cases_cons m)
 
-  all_pairs : (P Q : A → Type 0) (xs : List A) (h : All P xs) → All Q xs → All (λ w. Q w.0) (pairs P xs h)
+  all_pairs : (P Q : A → Type 0) (xs : List A) (h : AllByRecursion P xs) → AllByRecursion Q xs → AllByRecursion (λ w. Q w.0) (pairs P xs h)
   all_pairs P Q [] h k = tt
   all_pairs P Q (x ∷ xs) h k = (k.0, all_pairs P Q xs h.1 k.1)
 
-  pub pairwise_pairs : (P : A → Type 0) (R : A → A → Type 0) (xs : List A) (h : All P xs) → Pairwise R xs
+  pub pairwise_pairs : (P : A → Type 0) (R : A → A → Type 0) (xs : List A) (h : AllByRecursion P xs) → Pairwise R xs
       → Pairwise (λ v w. R v.0 w.0) (pairs P xs h)
   pairwise_pairs P R [] h k = tt
   pairwise_pairs P R (x ∷ xs) h k = (all_pairs P (R x) xs h.1 k.0, pairwise_pairs P R xs h.1 k.1)

@@ -1,19 +1,14 @@
 -- Lists of places that come before or after others, and what a test keeps of a list.
 -- Assumes nothing.
-use Rattle.std.proofs.Common.{◌≡◌, ℕ, zero, suc, ◌+◌, ◌<◌, ◌≤◌, Bool, true, false, cond, not, ◌⊎◌, List, [], ◌∷◌, ◌++◌, length, get_or, drop, Decides, filter, Ordering, Less, Equal, Greater, sym, refl, ap, ◌∙◌, subst, inl, inr, ⊎_elim, arith}
+use Rattle.std.proofs.Common.{◌≡◌, ℕ, zero, suc, ◌+◌, ◌<◌, ◌≤◌, Bool, true, false, cond, not, ◌⊎◌, List, [], ◌∷◌, ◌++◌, length, get_or, drop, Decides, filter, Ordering, Less, Equal, Greater, sym, refl, ap, ◌∙◌, inl, inr, ⊎_elim, arith}
 use mathlib.Core.List.{Memᴰ}
-use Rattle.std.specs.Cmp.{nat_cmp_is}
 use Rattle.std.specs.Ordering.{is_lt, ordering_then, MatchOrdering, nat_cmp}
 use Rattle.std.proofs.lemmas.Bool.{cases_order, false≢true}
+use Rattle.std.proofs.lemmas.Cmp.{ranked}
 use Rattle.recording.specs.Enumeration.{rank_places}
 
 number : (a b : ℕ) → MatchOrdering (nat_cmp a b) (a < b) (a ≡ b) (b < a)
-number a b =
-    elim (cases_order a b) [
-      | inl e ↦ subst (λ k. MatchOrdering k (a < b) (a ≡ b) (b < a)) (nat_cmp_is a b Equal e) e
-      | inr (inl h) ↦ subst (λ k. MatchOrdering k (a < b) (a ≡ b) (b < a)) (nat_cmp_is a b Less h) h
-      | inr (inr h) ↦ subst (λ k. MatchOrdering k (a < b) (a ≡ b) (b < a)) (nat_cmp_is a b Greater h) h
-    ]
+number a b = ranked a b (nat_cmp a b) refl
 
 -- qs does not come before ps.
 abbrev pub Reached : List ℕ → List ℕ → Type 0

@@ -2,7 +2,7 @@
 -- Assumes nothing.
 use Rattle.std.proofs.Common.{◌≡◌, ℕ, ◌≤◌, Bool, true, false, eqb, ltb, ◌↔◌, List, [], ◌∷◌, map, length, sym, refl, ap, ◌∙◌, subst, subst₂, ⊎_elim, arith}
 use mathlib.Core.List.{Memᴰ}
-use Rattle.std.specs.List.{AllByRecursion as All}
+use Rattle.std.specs.List.{AllByRecursion}
 use Rattle.std.proofs.ByRecursion.{All-weaker}
 use Rattle.std.proofs.lemmas.Bool.{and_from, lt-ltb, eq-eqb, cases_Bool, false≢true}
 use Rattle.sorted_list.proofs.Members.{unique}
@@ -58,7 +58,7 @@ module _ (ρ : Recording) (acc : Accepted ρ) (precedes : ℕ → ℕ → Bool) 
 
   -- ---- from the report to a stop
 
-  drawn_at : (ps : List ℕ) → All (EdgeAt rows) ps → All (Drawn ρ) (map (row_at rows) ps)
+  drawn_at : (ps : List ℕ) → AllByRecursion (EdgeAt rows) ps → AllByRecursion (Drawn ρ) (map (row_at rows) ps)
   drawn_at [] h = tt
   drawn_at (p ∷ ps) h =
       (((edges_are_listed ρ acc).members (row_at rows p)).0 (at_member rows p blank_edge h.0.0), drawn_at ps h.1)
@@ -87,7 +87,7 @@ module _ (ρ : Recording) (acc : Accepted ρ) (precedes : ℕ → ℕ → Bool) 
 
   record Placed (es : List Edge) : Type 0 where
     places : List ℕ
-    valid : All (EdgeAt rows) places
+    valid : AllByRecursion (EdgeAt rows) places
     are : map (row_at rows) places ≡ es
 
   abbrev PlacedOne : Edge → Type 0
@@ -98,7 +98,7 @@ module _ (ρ : Recording) (acc : Accepted ρ) (precedes : ℕ → ℕ → Bool) 
       let w = place_of blank_edge (((edges_are_listed ρ acc).members e).1 d) in
       (w.0, (w.1, ap is_edge w.2 ∙ edge_passes e (drawn_is_edge ρ acc e d)), w.2)
 
-  placed : (es : List Edge) → All (Drawn ρ) es → Placed es
+  placed : (es : List Edge) → AllByRecursion (Drawn ρ) es → Placed es
   placed [] h = record { places = []; valid = tt; are = refl }
   placed (e ∷ es) h =
       let one = placed_one e h.0 in

@@ -3,7 +3,7 @@
 use Rattle.std.proofs.Common.{◌≡◌, ℕ, zero, suc, ◌<◌, ◌≤◌, Bool, true, false, cond, eqb, ltb, leb, List, [], ◌∷◌, ◌++◌, map, length, take, drop, replicate, sym, refl, ap, ◌∙◌, subst, arith}
 use mathlib.Core.List.Memᴰ
 use mathlib.Core.List.{Memᴰ}
-use Rattle.std.specs.List.{AllByRecursion as All}
+use Rattle.std.specs.List.{AllByRecursion}
 use Rattle.std.proofs.ByRecursion.{All-take, All-map}
 use Rattle.std.proofs.lemmas.List.{length-map, take-take, take_all, take-append-le}
 use Rattle.std.proofs.lemmas.Bool.{and_parts, eqb-true, leb-true, false≢true}
@@ -67,7 +67,7 @@ threads_apart : (parallel : ℕ → ℕ → Type 0) (es : List Edge) → Pairwis
 threads_apart parallel [] h = tt
 threads_apart parallel (e ∷ es) h = (others es h.0, threads_apart parallel es h.1)
   where
-    others : (fs : List Edge) → All (Apart parallel e) fs → All (λ z. e.thread ≡ z.thread → ⊥) (map step fs)
+    others : (fs : List Edge) → AllByRecursion (Apart parallel e) fs → AllByRecursion (λ z. e.thread ≡ z.thread → ⊥) (map step fs)
     others [] k = tt
     others (f ∷ fs) k = (k.0.0, others fs k.1)
 
@@ -89,11 +89,11 @@ closes_circle parallel e (f ∷ es) c k =
 
 -- ---- rows of circles
 
-zeros : (n : ℕ) → All (λ z. z ≡ zero_step) (replicate n zero_step)
+zeros : (n : ℕ) → AllByRecursion (λ z. z ≡ zero_step) (replicate n zero_step)
 zeros zero = tt
 zeros (suc n) = (refl, zeros n)
 
-behind : (P : Step → Type 0) (n : ℕ) (c zs : List Step) → All P zs → All P (drop (length c) (take n (c ++ zs)))
+behind : (P : Step → Type 0) (n : ℕ) (c zs : List Step) → AllByRecursion P zs → AllByRecursion P (drop (length c) (take n (c ++ zs)))
 behind P n [] zs h = All-take P n zs h
 behind P zero (s ∷ c) zs h = tt
 behind P (suc n) (s ∷ c) zs h = behind P n c zs h
@@ -122,7 +122,7 @@ module _ (rows : List Edge) (precedes : ℕ → ℕ → Bool) where
   abbrev threads : List ℕ → List ℕ
   threads = map (λ p. (row_at rows p).thread)
 
-  threads_small : (ps : List ℕ) → All (EdgeAt rows) ps → All (λ t. t < 64) (threads ps)
+  threads_small : (ps : List ℕ) → AllByRecursion (EdgeAt rows) ps → AllByRecursion (λ t. t < 64) (threads ps)
   threads_small [] h = tt
   threads_small (p ∷ ps) h = (edge_thread (row_at rows p) h.0.1, threads_small ps h.1)
 
@@ -131,12 +131,12 @@ module _ (rows : List Edge) (precedes : ℕ → ℕ → Bool) where
   threads_differ [] h = tt
   threads_differ (p ∷ ps) h = (others ps h.0, threads_differ ps h.1)
     where
-      others : (qs : List ℕ) → All (Apart (Unordered precedes) (row_at rows p)) (map (row_at rows) qs)
-          → All (λ u. (row_at rows p).thread ≡ u → ⊥) (threads qs)
+      others : (qs : List ℕ) → AllByRecursion (Apart (Unordered precedes) (row_at rows p)) (map (row_at rows) qs)
+          → AllByRecursion (λ u. (row_at rows p).thread ≡ u → ⊥) (threads qs)
       others [] k = tt
       others (q ∷ qs) k = (k.0.0, others qs k.1)
 
-  chain_short : (ps : List ℕ) → All (EdgeAt rows) ps → Pairwise (Apart (Unordered precedes)) (map (row_at rows) ps)
+  chain_short : (ps : List ℕ) → AllByRecursion (EdgeAt rows) ps → Pairwise (Apart (Unordered precedes)) (map (row_at rows) ps)
       → length (steps_at rows ps) ≤ 64
   chain_short ps valid apart =
       omega (

@@ -10,12 +10,12 @@ use Rattle.rows.specs.declared.event.Event.TheVariants.{Lock}
 use Rattle.rows.specs.declared.edge.Edge.{Edge}
 use Rattle.rows.specs.declared.step.Step.{Step}
 use Rattle.recording.specs.Recording.{Recording, size, event, actor, in_thread}
-use Rattle.recording.specs.Segments.{segment, arrows, Precedes, Parallel}
+use Rattle.recording.specs.Segments.{arrows, Precedes, Parallel}
 use Rattle.recording.specs.Halts.{Halt, Holds, Stands, CanStopIn}
 use Rattle.recording.specs.Ledger.{Accepted}
 use Rattle.recording.specs.Edges.{DrawnIn}
 use Rattle.rows.specs.Edges.{In}
-use Rattle.std.specs.List.{AllByRecursion as All}
+use Rattle.std.specs.List.{AllByRecursion}
 use Rattle.sorted_list.proofs.Members.{all_member}
 use Rattle.recording.specs.Chains.{Pairwise, Apart, step, Closes}
 use Rattle.recording.proofs.Prefixes.{⊑_size, ⊑_init, ⊑_trans, event_at, read_at}
@@ -194,7 +194,7 @@ module _ (ρ : Recording) (acc : Accepted ρ) (W : ℕ → Type 0) where
       edges : List Edge
       edges = k.first ∷ k.rest
 
-      spots : All (Spot ρ W) edges
+      spots : AllByRecursion (Spot ρ W) edges
       spots = all_from (Spot ρ W) edges (λ e m. spot ρ W e (all_member (DrawnIn ρ W) edges k.drawn m))
 
       target : (s : Step) → Memᴰ s c → (z : Target) × Memᴰ z (pairs (Spot ρ W) edges spots) × (step z.0 ≡ s)

@@ -1,14 +1,12 @@
 -- The walk over the chains: what comes after a chain is what goes on from it, and then what has a larger place at its last level,
 -- and so on for the levels before.
 -- Assumes nothing.
-use Rattle.std.proofs.Common.{◌≡◌, ℕ, ◌+◌, ◌<◌, ◌≤◌, Bool, true, false, not, List, [], ◌∷◌, ◌++◌, map, length, get_or, drop, Decides, Less, sym, refl, ap, ◌∙◌, subst, inl, inr, ⊎_elim, append_assoc, arith}
-use mathlib.Core.List.{Memᴰ}
-use Rattle.std.specs.Ordering.{is_lt, ordering_reverse}
-use Rattle.std.specs.List.{AllByRecursion as All}
+use Rattle.std.proofs.Common.{◌≡◌, ℕ, ◌+◌, ◌<◌, ◌≤◌, Bool, true, false, not, List, [], ◌∷◌, ◌++◌, map, length, get_or, drop, Less, sym, refl, ap, ◌∙◌, subst, inl, inr, ⊎_elim, arith}
+use Rattle.std.specs.Ordering.{is_lt}
+use Rattle.std.specs.List.{AllByRecursion}
 use Rattle.std.proofs.lemmas.List.{drop_more}
-use Rattle.std.proofs.lemmas.Bool.{false≢true, cases_Bool, cases_lt, cases_order}
+use Rattle.std.proofs.lemmas.Bool.{false≢true, cases_Bool, cases_lt}
 use Rattle.std.proofs.lemmas.Bool.Decides.{same_from_decides, Decides-like}
-use Rattle.sorted_list.specs.Laws.{Ascending}
 use Rattle.sorted_list.proofs.Orders.{equal_self, flipped}
 use Rattle.sorted_list.proofs.Members.{ascending_at}
 use Rattle.rows.specs.declared.edge.Edge.{Edge}
@@ -34,7 +32,7 @@ module _ (rows : List Edge) (precedes : ℕ → ℕ → Bool) where
   -- What goes on beyond ps has an edge there that fits.
   next_fits : (least wanted : ℕ) (path : List Edge) (ps : List ℕ) (x : ℕ) (rest : List ℕ)
       → GoesOn rows precedes least wanted path (ps ++ x ∷ rest)
-      → (x < length rows) × Fits rows precedes least (last_wanted wanted ps) path (row_at rows x) × All (ApartFrom (row_at rows x)) (edges ps)
+      → (x < length rows) × Fits rows precedes least (last_wanted wanted ps) path (row_at rows x) × AllByRecursion (ApartFrom (row_at rows x)) (edges ps)
   next_fits least wanted path [] x rest (within, fit, g) = (within, fit, tt)
   next_fits least wanted path (q ∷ qs) x rest (within, fit, g) =
       let (inside, (is, (link, (far, less))), others) =
@@ -43,7 +41,7 @@ module _ (rows : List Edge) (precedes : ℕ → ℕ → Bool) where
 
   fit_next : (least wanted : ℕ) (path : List Edge) (ps : List ℕ) (x : ℕ) → GoesOn rows precedes least wanted path ps
       → x < length rows → Fits rows precedes least (last_wanted wanted ps) path (row_at rows x)
-      → All (ApartFrom (row_at rows x)) (edges ps) → GoesOn rows precedes least wanted path (ps ++ x ∷ [])
+      → AllByRecursion (ApartFrom (row_at rows x)) (edges ps) → GoesOn rows precedes least wanted path (ps ++ x ∷ [])
   fit_next least wanted path [] x g within fit others = (within, fit, tt)
   fit_next least wanted path (q ∷ qs) x (inside, first, g) within (is, (link, (far, less))) others = (
     inside,
@@ -92,7 +90,7 @@ module _ (rows : List Edge) (precedes : ℕ → ℕ → Bool) where
   last_edge [] x c = c.0.0
   last_edge (p ∷ ps) x c = behind ps c.0.1
     where
-      behind : (qs : List ℕ) → All (EdgeAt rows) (qs ++ x ∷ []) → EdgeAt rows x
+      behind : (qs : List ℕ) → AllByRecursion (EdgeAt rows) (qs ++ x ∷ []) → EdgeAt rows x
       behind [] a = a.0
       behind (q ∷ qs) a = behind qs a.1
 

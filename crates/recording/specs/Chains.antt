@@ -1,7 +1,7 @@
 -- Chains of edges, and the circles that closed ones give.
 -- Assumes nothing.
 use Rattle.std.specs.Prelude.{◌≡◌, ℕ, ◌<◌, List, [], ◌∷◌, map, ◌≢◌, bit_and}
-use Rattle.std.specs.List.{AllByRecursion as All}
+use Rattle.std.specs.List.{AllByRecursion}
 use Rattle.rows.specs.Circles.{Linked}
 use Rattle.rows.specs.declared.edge.Edge.{Edge}
 use Rattle.rows.specs.declared.step.Step.{Step}
@@ -17,7 +17,7 @@ Apart parallel e f = (e.thread ≢ f.thread) × (bit_and e.guards f.guards ≡ 0
 -- Every two, the earlier and the later, stand in the relation.
 abbrev pub Pairwise : {A : Type 0} → (A → A → Type 0) → List A → Type 0
 Pairwise R [] = Unit {0}
-Pairwise R (x ∷ xs) = All (R x) xs × Pairwise R xs
+Pairwise R (x ∷ xs) = AllByRecursion (R x) xs × Pairwise R xs
 
 -- The lock that the last of the steps wants, and where there is no step `wanted`.
 abbrev pub wanted_at_last : ℕ → List Step → ℕ
@@ -29,13 +29,13 @@ wanted_at_last wanted (z ∷ zs) = wanted_at_last z.wanted zs
 pub record IsChain (parallel : ℕ → ℕ → Type 0) (e : Edge) (es : List Edge) : Type 0 where
   pub linked : Linked e.wanted (map step es) (wanted_at_last e.wanted (map step es))
   pub apart : Pairwise (Apart parallel) (e ∷ es)
-  pub smallest : All (λ f. e.thread < f.thread) es
+  pub smallest : AllByRecursion (λ f. e.thread < f.thread) es
 
 -- A closed chain of edges of a kind gives the circle: its last wanted lock is its first held lock, and its steps are the circle's.
 pub record Closes (edge : Edge → Type 0) (parallel : ℕ → ℕ → Type 0) (c : List Step) : Type 0 where
   pub first : Edge
   pub rest : List Edge
-  pub drawn : All edge (first ∷ rest)
+  pub drawn : AllByRecursion edge (first ∷ rest)
   pub chain : IsChain parallel first rest
   pub closed : wanted_at_last first.wanted (map step rest) ≡ first.held
   pub gives : map step (first ∷ rest) ≡ c

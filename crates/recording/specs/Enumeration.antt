@@ -5,7 +5,7 @@ use Rattle.std.specs.declared.cmp.Ordering.{Ordering}
 use mathlib.Core.List.{Memᴰ}
 use Rattle.std.specs.Cmp.Lexicographic.{slice_cmp}
 use Rattle.std.specs.Ordering.{is_lt, nat_cmp}
-use Rattle.std.specs.List.{AllByRecursion as All}
+use Rattle.std.specs.List.{AllByRecursion}
 use Rattle.sorted_list.specs.Laws.{Ascending, Once}
 use Rattle.rows.specs.Circles.{every}
 use Rattle.rows.specs.Edges.{is_edge, blank_edge}
@@ -30,7 +30,7 @@ EdgeAt rows p = (p < length rows) × (is_edge (row_at rows p) ≡ true)
 abbrev pub IsChainAt : List Edge → (ℕ → ℕ → Bool) → List ℕ → Type 0
 IsChainAt rows precedes [] = ⊥
 IsChainAt rows precedes (p ∷ ps) =
-    All (EdgeAt rows) (p ∷ ps) × IsChain (Unordered precedes) (row_at rows p) (map (row_at rows) ps)
+    AllByRecursion (EdgeAt rows) (p ∷ ps) × IsChain (Unordered precedes) (row_at rows p) (map (row_at rows) ps)
 
 -- ---- the same, computed
 

@@ -1,16 +1,16 @@
 -- Where a scan fails: the bytes before begin some text of its pieces, and with the byte that stands there they begin none.
 -- Assumes nothing.
-use Rattle.std.proofs.Common.{◌≡◌, ℕ, zero, suc, ◌+◌, ◌<◌, ◌≤◌, Bool, true, false, cond, eqb, List, [], ◌∷◌, ◌++◌, length, get_or, take, drop, Some, None, Ok, Err, decimal, Option, Result, sym, refl, ap, ◌∙◌, subst, ⊎_elim, append_assoc, add-zero, add_assoc, add-suc, arith, take-add}
+use Rattle.std.proofs.Common.{◌≡◌, ℕ, suc, ◌+◌, ◌<◌, ◌≤◌, Bool, true, false, cond, eqb, List, [], ◌∷◌, ◌++◌, length, get_or, take, drop, Some, None, Ok, Err, decimal, Option, Result, sym, refl, ap, ◌∙◌, subst, ⊎_elim, append_assoc, add-zero, add_assoc, add-suc, arith, take-add}
 use Rattle.std.specs.Char.{is_ascii_digit}
 use Rattle.std.proofs.lemmas.List.{drop_at, get_or-drop, length-drop, length-take-le}
-use Rattle.std.proofs.lemmas.Bool.{cond-true, cond-false, cond_both, cases_Bool, eqb-true, eqb-false, and_parts, leb-true, ltb-true, both_ways}
+use Rattle.std.proofs.lemmas.Bool.{cond-true, cond-false, cond_both, cases_Bool, eqb-true, eqb-false, and_parts, ltb-true, both_ways}
 use Rattle.std.proofs.lemmas.Bool.Decides.{nat_tests}
 use Rattle.text.specs.declared.fault.LineFault.{LineFault}
 use Rattle.text.specs.declared.fault.TextCause.{TextCause}
 use Rattle.text.specs.declared.fault.TextCause.TheVariants.{Byte, Digit}
 use Rattle.text.specs.declared.number.Numeral.{Numeral}
 use Rattle.text.specs.Numbers.{run, good, front, numeral, misplaced}
-use Rattle.text.specs.Pieces.{Piece, byte, number, wrong, and_then, past, scan}
+use Rattle.text.specs.Pieces.{Piece, byte, number, wrong, and_then, scan}
 use Rattle.text.proofs.Runs.{run_within, run_at, run_after, run_append, run_digits, run_take}
 use Rattle.text.proofs.Numerals.{Number, numeral_text, ends, decimal_good, taken_small, taken_text}
 use Rattle.text.proofs.Spelling.{Spells, Bare, Parted, stops}

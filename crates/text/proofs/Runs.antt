@@ -1,8 +1,8 @@
 -- The run of digits at the front of some bytes.
 -- Assumes nothing.
-use Rattle.std.proofs.Common.{◌≡◌, ℕ, zero, suc, ◌+◌, ◌-◌, ◌^◌, ◌<◌, ◌≤◌, Bool, true, false, List, [], ◌∷◌, ◌++◌, length, get_or, take, drop, sym, refl, ap, ◌∙◌, subst, add-one, arith}
+use Rattle.std.proofs.Common.{◌≡◌, ℕ, zero, suc, ◌+◌, ◌-◌, ◌^◌, ◌<◌, ◌≤◌, Bool, true, false, List, [], ◌∷◌, ◌++◌, length, get_or, take, drop, refl, ap, ◌∙◌, subst, add-one, arith}
 use Rattle.std.specs.Str.Parse.{AllDigits, digits_value}
-use Rattle.std.specs.Char.{is_ascii_digit, digit_value as digitValue}
+use Rattle.std.specs.Char.{is_ascii_digit, digit_value}
 use Rattle.std.proofs.lemmas.Int.Digits.{digits_more, digits_value-lt}
 use Rattle.std.proofs.lemmas.List.{drop_more, drop_all, length-take-le}
 use Rattle.std.proofs.lemmas.Str.Parse.{digit_from_value}
@@ -42,8 +42,8 @@ run_after [] = refl
 run_after (b ∷ bs) =
     cond_both (is_ascii_digit b) (suc (run bs)) 0 (λ n. is_ascii_digit (get_or (b ∷ bs) n 0) ≡ false) (λ _. run_after bs) (λ e. e)
 
-digit_value : (b : ℕ) → is_ascii_digit b ≡ true → digitValue b < 10
-digit_value b d = grind (arith, nat_tests)
+digit_below_ten : (b : ℕ) → is_ascii_digit b ≡ true → digit_value b < 10
+digit_below_ten b d = grind (arith, nat_tests)
 
 -- the first bytes of a run are digits
 pub run_digits : (bs : List ℕ) (i : ℕ) → i ≤ run bs → AllDigits 10 (take i bs)
@@ -51,7 +51,7 @@ run_digits bs zero h = tt
 run_digits bs (suc i) h =
     let at : i < run bs = omega arith in
     let more : i < length bs = omega (arith, run_within bs) in
-    subst (λ n. AllDigits 10 (take n bs)) (add-one i) (digits_more 10 bs i more (run_digits bs i (omega arith)) (digit_value (get_or bs i 0) (run_at bs i at)))
+    subst (λ n. AllDigits 10 (take n bs)) (add-one i) (digits_more 10 bs i more (run_digits bs i (omega arith)) (digit_below_ten (get_or bs i 0) (run_at bs i at)))
 
 pub run_value : (bs : List ℕ) (i : ℕ) → i ≤ run bs → digits_value 10 (take i bs) < 10 ^ i
 run_value bs i h =
@@ -59,7 +59,7 @@ run_value bs i h =
     rw long at (digits_value-lt 10 (take i bs) (run_digits bs i h))
 
 -- a digit of a run stands for its distance from the digit 0
-pub run_digit : (bs : List ℕ) (i : ℕ) → i < run bs → (48 ≤ get_or bs i 0) × (get_or bs i 0 ≤ 57) × (digitValue (get_or bs i 0) ≡ get_or bs i 0 - 48)
+pub run_digit : (bs : List ℕ) (i : ℕ) → i < run bs → (48 ≤ get_or bs i 0) × (get_or bs i 0 ≤ 57) × (digit_value (get_or bs i 0) ≡ get_or bs i 0 - 48)
 run_digit bs i h = let d = run_at bs i h in (grind (arith, nat_tests), grind (arith, nat_tests), grind (arith, nat_tests))
 
 -- up to two digits of a run

@@ -1,14 +1,14 @@
 -- A scan reads exactly the bytes that spell its pieces.
 -- Assumes nothing.
-use Rattle.std.proofs.Common.{◌≡◌, ℕ, ◌+◌, ◌≤◌, true, false, eqb, List, [], ◌∷◌, ◌++◌, length, get_or, drop, Some, None, Ok, Err, decimal, Option, Result, sym, refl, ap, ◌∙◌, ⊎_elim, arith}
+use Rattle.std.proofs.Common.{◌≡◌, ℕ, ◌+◌, ◌≤◌, false, eqb, List, [], ◌∷◌, ◌++◌, get_or, drop, Some, None, Ok, Err, decimal, Option, Result, sym, refl, ap, ◌∙◌, ⊎_elim}
 use Rattle.std.specs.Char.{is_ascii_digit}
 use Rattle.std.proofs.lemmas.List.{take-append-drop, drop_at}
 use Rattle.std.proofs.lemmas.Bool.{cond-true, cond-false, cases_Bool, eqb-true, eq-eqb}
 use Rattle.text.specs.declared.fault.LineFault.{LineFault}
 use Rattle.text.specs.declared.number.Numeral.{Numeral}
 use Rattle.text.specs.Numbers.{numeral}
-use Rattle.text.specs.Pieces.{Piece, byte, number, and_then, past, scan}
-use Rattle.text.proofs.Numerals.{Number, numeral_text, decimal_front}
+use Rattle.text.specs.Pieces.{Piece, byte, number, and_then, scan}
+use Rattle.text.proofs.Numerals.{numeral_text, decimal_front}
 use Rattle.text.proofs.Results.{ok_or_err}
 use Rattle.text.proofs.Steps.{scan_byte, scan_byte_fault, scan_number, scan_number_fault}
 

@@ -19,7 +19,7 @@ split c =
 
 pub returns-in_err-event_at : goal.returns-in_err-event_at
 returns-in_err-event_at c =
-    let p = err_from_is_err_and c.from-residual.result c.from-residual.ensures.1 in
+    let p = err_from_is_err_and c.from_residual.result c.from_residual.ensures.1 in
     let at = counted_fault _ _ _ _ _ (split (goal.at.returns-in_err-event_at c).After-first_line) (sym c.event_at.ensures ∙ c.in_err-event_at.was) in
     rw (p.1, p.2) (sym at ∙ c.loop-rest.invariant.0 ∙ counted_all (lines c.args.file.now))
 

@@ -1,5 +1,4 @@
 use Rattle.std.proofs.Common.{◌≡◌, ◌+◌, ◌≤◌, length}
-use Rattle.feed.specs.Files.{events_from}
 use Rattle.feed.specs.Lines.{lines}
 use Rattle.feed.proofs.Counting.{counted_from}
 use Rattle.feed.proofs.file.feed_lines.Given as goal

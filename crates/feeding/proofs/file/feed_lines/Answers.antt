@@ -31,7 +31,7 @@ overflow_add-line g c = omega (arith, c.loop-rest.invariant.0.bound, some g (goa
 
 pub returns-in_err-at_line : goal.returns-in_err-at_line
 returns-in_err-at_line g c =
-    let p = err_from_is_err_and c.from-residual.result c.from-residual.ensures.1 in
+    let p = err_from_is_err_and c.from_residual.result c.from_residual.ensures.1 in
     let inv = c.loop-rest.invariant in
     let more = some g (goal.at.returns-in_err-at_line g c).In-loop-rest in
     let at = numbered_err _ _ _ (sym c.at_line.ensures ∙ c.in_err-at_line.was) in

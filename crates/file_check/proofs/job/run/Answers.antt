@@ -17,7 +17,7 @@ fresh g c = λ i. state (c.fresh-ledger.ensures.rows i) (c.clear.ensures.holds i
 pub returns-in_err-feed : goal.returns-in_err-feed
 returns-in_err-feed g c =
     let at = (goal.at.returns-in_err-feed g c).After-feed in
-    let p = err_from_is_err_and c.from-residual.result c.from-residual.ensures.1 in
+    let p = err_from_is_err_and c.from_residual.result c.from_residual.ensures.1 in
     let limit = g.O.SegmentOrder.limit in
     let edges = length c.args.edges.now.places.now in
     let room = length c.args.circles.now.places.now in

@@ -25,4 +25,4 @@ overflow_mul-factorial c =
 pub round-requires : goal.round-requires
 round-requires c =
     let f = fitting c.args.k c.args.n (omega arith) (omega arith) (omega arith) in
-    rw c.pow.ensures (f.some, omega arith)
+    rw c.pow.ensures (record { below_nonzero = f.some; above_bound = omega arith })

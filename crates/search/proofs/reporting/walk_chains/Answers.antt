@@ -53,14 +53,14 @@ returns-in_err-take g c =
     let p = c.loop-index.invariant.1 in
     let next = c.loop-index-test.ensures in
     let take = c.take.ensures in
-    let out = err_from_is_err_and c.from-residual.result c.from-residual.ensures.1 in
+    let out = err_from_is_err_and c.from_residual.result c.from_residual.ensures.1 in
     let (spent, is) = is_over t c.args.budget c.in_err-take.field-0.0 (sym take.answers ∙ c.in_err-take.was) in
     let full = eqb-true t.chains c.args.budget spent in
     let same = take.holds ∙ cond-true (eqb t.chains c.args.budget) _ _ spent in
     record {
       answers = out.1 ∙ ap Err (out.2 ∙ is) ∙ sym (overspent rows before c.args.budget n c.loop-index.stack t c.loop-index.circles p
           c.next_chain.new.self next.more next.next next.walks full);
-      holds = λ e. absurd (false≢true (sym e ∙ c.from-residual.ensures.0));
+      holds = λ e. absurd (false≢true (sym e ∙ c.from_residual.ensures.0));
       size = memory_long rows before c.args.budget n c.loop-index.stack t c.loop-index.circles p c.take.new.circles same;
       lent = take.lent ∙ c.loop-index.invariant.2;
     }

@@ -7,17 +7,17 @@ use Rattle.text.proofs.arguments.arguments.Goals as goal
 
 pub returns-in_err-thread : goal.returns-in_err-thread
 returns-in_err-thread c =
-    let p = err_from_is_err_and c.from-residual.result c.from-residual.ensures.1 in
+    let p = err_from_is_err_and c.from_residual.result c.from_residual.ensures.1 in
     rw (p.1, p.2) (c.in_err-thread.ensures.value _)
 
 pub returns-in_err-other : goal.returns-in_err-other
 returns-in_err-other c =
-    let p = err_from_is_err_and c.from-residual-in_err-other.result c.from-residual-in_err-other.ensures.1 in
+    let p = err_from_is_err_and c.from_residual-in_err-other.result c.from_residual-in_err-other.ensures.1 in
     rw (p.1, p.2) (c.in_ok-thread.ensures.value _ ∙ ap (λ r. and_then r (λ ns. Ok (c.in_ok-thread.thread.value ∷ ns))) (c.in_err-other.ensures.value _))
 
 pub returns-in_err-further : goal.returns-in_err-further
 returns-in_err-further c =
-    let p = err_from_is_err_and c.from-residual-in_err-further.result c.from-residual-in_err-further.ensures.1 in
+    let p = err_from_is_err_and c.from_residual-in_err-further.result c.from_residual-in_err-further.ensures.1 in
     rw (p.1, p.2)
     (two_arguments _ _ (c.in_ok-thread.ensures.value _) (c.in_ok-other.ensures.value _)
     (scan_byte_fault _ _ _ _ _ c.in_err-further.ensures))

@@ -8,12 +8,12 @@ use Rattle.text.proofs.arguments.read_argument.Goals as goal
 
 pub returns-in_err-bytes : goal.returns-in_err-bytes
 returns-in_err-bytes c =
-    let p = err_from_is_err_and c.from-residual.result c.from-residual.ensures.1 in
+    let p = err_from_is_err_and c.from_residual.result c.from_residual.ensures.1 in
     rw (p.1, p.2) (record { value = λ ps. scan_byte_fault _ _ _ _ _ c.in_err-bytes.ensures; bound = tt })
 
 pub returns-in_err-bytes-2 : goal.returns-in_err-bytes-2
 returns-in_err-bytes-2 c =
-    let p = err_from_is_err_and c.from-residual-in_err-bytes-2.result c.from-residual-in_err-bytes-2.ensures.1 in
+    let p = err_from_is_err_and c.from_residual-in_err-bytes-2.result c.from_residual-in_err-bytes-2.ensures.1 in
     rw (p.1, p.2) (record { value = λ ps. scan_byte _ _ _ _ _ c.in_ok-bytes.ensures ∙ scan_byte_fault _ _ _ _ _ c.in_err-bytes-2.ensures; bound = tt })
 
 pub returns-in_default : goal.returns-in_default
