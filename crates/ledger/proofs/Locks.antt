@@ -1,7 +1,7 @@
 -- The locks of a row: taken one by one, given up, at most 64.
 -- Assumes nothing.
 use Rattle.std.proofs.Common.{◌≡◌, ℕ, ◌<◌, ◌≤◌, Bool, true, false, cond, not, ◌&&◌, ◌||◌, eqb, leb, List, [], ◌∷◌, ◌++◌, length, filter, sym, refl, ap, ◌∙◌, arith}
-use Rattle.std.specs.List.{AllByRecursion as All}
+use Rattle.std.specs.List.{AllByRecursion}
 use Rattle.std.proofs.ByRecursion.{All-weaker}
 use Rattle.std.proofs.lemmas.Bool.{and_parts, and_from, or_parts, or_from, not-true, not_from_false, cond_both, leb-true, le-leb, eqb-false, ne_eqb}
 use Rattle.recording.specs.Chains.{Pairwise}
@@ -65,11 +65,11 @@ tidy_kept test (x ∷ xs) h =
 
 -- ---- how many there are
 
-pub tidy_small : (xs : List ℕ) → tidy xs ≡ true → All (λ l. l ≤ 63) xs
+pub tidy_small : (xs : List ℕ) → tidy xs ≡ true → AllByRecursion (λ l. l ≤ 63) xs
 tidy_small [] h = tt
 tidy_small (x ∷ xs) h = let p = first x xs h in (p.0, tidy_small xs p.2)
 
-differ : (xs : List ℕ) (l : ℕ) → has xs l ≡ false → All (λ x. l ≡ x → ⊥) xs
+differ : (xs : List ℕ) (l : ℕ) → has xs l ≡ false → AllByRecursion (λ x. l ≡ x → ⊥) xs
 differ [] l h = tt
 differ (x ∷ xs) l h = let p = or_parts (eqb x l) (has xs l) h in ((λ e. eqb-false x l p.0 (sym e)), differ xs l p.1)
 

@@ -1,7 +1,7 @@
 -- The locks of a row after a recording: those that the thread took more often than it gave them up, each once.
 -- Assumes nothing.
 use Rattle.std.proofs.Common.{◌≡◌, ℕ, ◌+◌, ◌<◌, ◌≤◌, Bool, true, false, cond, not, ◌&&◌, ◌||◌, eqb, Decides, sym, refl, ap, ◌∙◌, subst, ⊎_elim, arith}
-use Rattle.std.specs.List.{AllByRecursion as All}
+use Rattle.std.specs.List.{AllByRecursion}
 use Rattle.std.proofs.lemmas.Bool.{not-true, eqb-true, eqb-false, eq-eqb, and_parts, cond_both, lt-ltb, le-ltb, cases_lt}
 use Rattle.std.proofs.lemmas.Bool.Decides.{nat_tests, Decides-at, Decides-ltb, Decides-not}
 use Rattle.rows.specs.declared.event.Event.TheVariants.{Lock, Release, Start, Join}
@@ -128,7 +128,7 @@ locks_different (ρ ▸ Release t o) acc v =
 locks_different (ρ ▸ Start t u) acc v = locks_different ρ acc.0 v
 locks_different (ρ ▸ Join t u) acc v = locks_different ρ acc.0 v
 
-pub locks_small : (ρ : Recording) → Accepted ρ → (v : ℕ) → All (λ l. l ≤ 63) (locks_after ρ v)
+pub locks_small : (ρ : Recording) → Accepted ρ → (v : ℕ) → AllByRecursion (λ l. l ≤ 63) (locks_after ρ v)
 locks_small ρ acc v =
     all_from (λ l. l ≤ 63) (locks_after ρ v)
     (λ l m. held_small ρ acc v l ((has_held ρ acc v l).0 ((has_tells (locks_after ρ v) l).1 m)))

@@ -2,7 +2,7 @@
 -- Assumes nothing.
 use Rattle.std.proofs.Common.{◌≡◌, ℕ, ◌+◌, ◌≤◌, Bool, true, false, cond, not, ◌⊎◌, ◌↔◌, List, [], ◌∷◌, length, replicate, sym, refl, ap, ◌∙◌, subst, inl, inr, ⊎_elim, arith}
 use mathlib.Core.List.{Memᴰ}
-use Rattle.std.specs.List.{AllByRecursion as All}
+use Rattle.std.specs.List.{AllByRecursion}
 use Rattle.std.proofs.lemmas.List.{length-replicate}
 use Rattle.std.proofs.lemmas.Bool.{true≢false, cases_Bool, and_left, and_right, not_from_true, cond-false}
 use Rattle.std.proofs.lemmas.Bool.Decides.{same_from_decides, Decides-like}
@@ -57,7 +57,7 @@ module _ (h : Held Edge) (e : Edge) where
       (λ p f _. omega (arith, ap {B = ℕ} (λ b. cond b 0 1) p, one_less rank_edge h.free f))
 
   -- The others that are new stay new, and no more become so.
-  new_after : (es : List Edge) → Ascending rank_edge h.records → All (λ f. e ≡ f → ⊥) es
+  new_after : (es : List Edge) → Ascending rank_edge h.records → AllByRecursion (λ f. e ≡ f → ⊥) es
       → new_among (added rank_edge h e).records es ≡ new_among h.records es
   new_after [] up d = refl
   new_after (f ∷ es) up d = omega (arith, ap {B = ℕ} (λ b. cond b 0 1) same, new_after es up d.1)

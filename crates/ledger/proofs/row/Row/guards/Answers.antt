@@ -1,5 +1,5 @@
 use Rattle.std.proofs.Common.{◌≡◌, ◌≤◌, get_or, sym, refl, ap, ◌∙◌, subst, arith}
-use Rattle.std.specs.List.{AllByRecursion as All}
+use Rattle.std.specs.List.{AllByRecursion}
 use Rattle.std.proofs.ByRecursion.{All-get_or}
 use Rattle.std.proofs.lemmas.List.{take_all}
 use Rattle.recording.specs.EdgeList.{gather}
@@ -12,7 +12,7 @@ use Rattle.ledger.proofs.row.Row.guards.Goals.{In-loop-lock}
 small : (c : In-loop-lock) → get_or c.held-lock-items.result.now c.loop-lock.lock-index 0 ≤ 63
 small c =
     All-get_or (λ l. l ≤ 63) _ _ 0 c.loop-lock-test.true
-    (subst (All (λ l. l ≤ 63)) (sym c.held-lock-items.ensures) (tidy_small _ c.requires.1))
+    (subst (AllByRecursion (λ l. l ≤ 63)) (sym c.held-lock-items.ensures) (tidy_small _ c.requires.1))
 
 pub loop-lock-init : goal.loop-lock-init
 loop-lock-init c = refl
