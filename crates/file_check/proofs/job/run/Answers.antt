@@ -10,9 +10,9 @@ use Rattle.file_check.proofs.job.run.Goals.{After-feed}
 
 -- what is fed is fresh
 fresh : (g : Over) (c : After-feed g)
-    → state_with c.fresh-ledger.result c.clear.new.self (g.O.SegmentOrder.meaning c.fresh_order.result)
+    → state_with c.fresh-ledger.result c.clear.new.self (g.O.SegmentOrder.meaning c.fresh-order.result)
     ≡ fresh_state (length c.args.edges.now.places.now)
-fresh g c = λ i. state (c.fresh-ledger.ensures.rows i) (c.clear.ensures.holds i) (c.fresh_order.ensures i)
+fresh g c = λ i. state (c.fresh-ledger.ensures.rows i) (c.clear.ensures.holds i) (c.fresh-order.ensures i)
 
 pub returns-in_err-feed : goal.returns-in_err-feed
 returns-in_err-feed g c =
