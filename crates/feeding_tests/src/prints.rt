@@ -129,7 +129,7 @@ fn a_circle_line_has_its_steps_and_odds(rt: HostRuntime) {
 fn the_longest_circle_line_fits(rt: HostRuntime) {
     let mut line = [7u8; 1024];
     assert_eq!(rt; circle_line(&longest(), 1, &mut line), Ok(967));
-    assert_eq!(rt; &line[0..30], b"T192:L192>L193 T193:L193>L194 ");
+    assert_eq!(rt; &line[0..30], b"T192:L192>L193 T193:L193>L194 ".as_slice());
     check_line(&rt, &line[945..], b"T255:L255>L192 odds 0\n");
 }
 
