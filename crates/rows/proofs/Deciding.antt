@@ -2,7 +2,7 @@
 -- Assumes nothing.
 use Rattle.std.proofs.Common.{◌≡◌, ℕ, ◌-◌, ◌<◌, ◌≤◌, Bool, false, ◌&&◌, eqb, List, [], ◌∷◌, length, take, drop, Decides, refl, ap, ◌∙◌, arith}
 use native.Mathlib.Nat.{sub-zero}
-use Rattle.std.specs.List.{AllByRecursion as All}
+use Rattle.std.specs.List.{AllByRecursion}
 use Rattle.std.proofs.lemmas.List.{length-drop, take_all}
 use Rattle.std.proofs.lemmas.Bool.{leb-true, le-leb, ne_eqb, not_from_false, false≢true}
 use Rattle.std.proofs.lemmas.Bool.Decides.{Decides-eqb, Decides-ltb, Decides-not, Decides-and, Decides-like, Decides-at}
@@ -11,7 +11,7 @@ use Rattle.rows.specs.Circles.{Linked, Apart, IsCircle, IsCircleRow, every, link
 use Rattle.rows.specs.declared.row.CircleRow.{CircleRow}
 use Rattle.rows.specs.declared.step.Step.{Step}
 
-every_decides : (test : Step → Bool) (P : Step → Type 0) → ((s : Step) → Decides (test s) (P s)) → (zs : List Step) → Decides (every test zs) (All P zs)
+every_decides : (test : Step → Bool) (P : Step → Type 0) → ((s : Step) → Decides (test s) (P s)) → (zs : List Step) → Decides (every test zs) (AllByRecursion P zs)
 every_decides test P each = Decides-by_and test P (every test) each refl (λ _ _. refl)
 
 linked_decides : (wanted : ℕ) (zs : List Step) (last : ℕ) → Decides (linked wanted zs last) (Linked wanted zs last)

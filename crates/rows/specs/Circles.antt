@@ -1,7 +1,7 @@
 -- A circle: threads that each hold the lock which the one before them waits for.
 -- Assumes nothing.
 use Rattle.std.specs.Prelude.{◌≡◌, ℕ, ◌<◌, ◌≤◌, Bool, true, not, ◌&&◌, List, [], ◌∷◌, length, take, drop, replicate, ◌==◌, ◌≢◌, nat_le, nat_lt}
-use Rattle.std.specs.List.{AllByRecursion as All}
+use Rattle.std.specs.List.{AllByRecursion}
 use Rattle.rows.specs.declared.row.CircleRow.{CircleRow}
 use Rattle.rows.specs.declared.step.Step.{Step}
 
@@ -13,13 +13,13 @@ Linked wanted (z ∷ zs) last = (wanted ≡ z.held) × Linked z.wanted zs last
 -- No two threads are the same.
 abbrev pub Apart : List Step → Type 0
 Apart [] = Unit {0}
-Apart (s ∷ zs) = All (λ z. s.thread ≢ z.thread) zs × Apart zs
+Apart (s ∷ zs) = AllByRecursion (λ z. s.thread ≢ z.thread) zs × Apart zs
 
 -- No step at all, or two and more that close up, with different threads, the smallest first.
 abbrev pub IsCircle : List Step → Type 0
 IsCircle [] = Unit {0}
 IsCircle (s ∷ []) = ⊥
-IsCircle (s ∷ z ∷ zs) = Linked s.wanted (z ∷ zs) s.held × Apart (s ∷ z ∷ zs) × All (λ b. s.thread < b.thread) (z ∷ zs)
+IsCircle (s ∷ z ∷ zs) = Linked s.wanted (z ∷ zs) s.held × Apart (s ∷ z ∷ zs) × AllByRecursion (λ b. s.thread < b.thread) (z ∷ zs)
 
 abbrev pub zero_step : Step
 zero_step = record { thread = 0; held = 0; wanted = 0 }
@@ -31,7 +31,7 @@ steps_of r = take r.count r.steps
 pub record IsCircleRow (r : CircleRow) : Type 0 where
   pub count : r.count ≤ 64
   pub circle : IsCircle (steps_of r)
-  pub rest : All (λ z. z ≡ zero_step) (drop r.count r.steps)
+  pub rest : AllByRecursion (λ z. z ≡ zero_step) (drop r.count r.steps)
 
 -- The same as tests.
 abbrev pub every : {X : Type 0} → (X → Bool) → List X → Bool

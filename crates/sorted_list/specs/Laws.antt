@@ -4,20 +4,20 @@ use Rattle.std.specs.Prelude.{◌≡◌, ℕ, ◌+◌, ◌<◌, false, cond, ◌
 use Rattle.std.specs.declared.cmp.Ordering.TheVariants.{Less, Equal}
 use Rattle.std.specs.declared.cmp.Ordering.{Ordering}
 use mathlib.Core.List.{Memᴰ}
-use Rattle.std.specs.List.{AllByRecursion as All}
+use Rattle.std.specs.List.{AllByRecursion}
 use Rattle.sorted_list.specs.Lists.{Held, opened, present, added, refused}
 
 -- Each record comes before all that stand behind it.
 abbrev pub Ascending : {X : Type 0} → (X → X → Ordering) → List X → Type 0
 Ascending rank [] = Unit {0}
-Ascending rank (x ∷ xs) = All (λ y. rank x y ≡ Less) xs × Ascending rank xs
+Ascending rank (x ∷ xs) = AllByRecursion (λ y. rank x y ≡ Less) xs × Ascending rank xs
 
 -- No record stands at two places.
 abbrev pub Once : {X : Type 0} → List X → Type 0
 Once {X} xs = (i j : ℕ) (d : X) → i < j → j < length xs → slice_index_or xs i d ≢ slice_index_or xs j d
 
 abbrev pub Blank : {X : Type 0} → X → List X → Type 0
-Blank vacant xs = All (λ x. x ≡ vacant) xs
+Blank vacant xs = AllByRecursion (λ x. x ≡ vacant) xs
 
 -- A record that is equal to r in the order is one of xs.
 abbrev pub HasEqual : {X : Type 0} → (X → X → Ordering) → List X → X → Type 0

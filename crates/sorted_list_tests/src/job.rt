@@ -1,10 +1,8 @@
 // Jobs, by their names. Two jobs of one name may differ in their kind.
-ghost use Rattle.sorted_list_tests.specs.Records.{job_rank, no_job};
-ghost use Rattle.std.specs.Cmp.Derive.{on};
-ghost use Rattle.std.specs.Cmp.{nat_cmp_total};
+ghost use Rattle.std.proofs.lemmas.Cmp.{nat_cmp_total, lists_total, on_total};
 ghost use Rattle.sorted_list.proofs.Orders.{lawful};
+ghost use Rattle.sorted_list_tests.specs.Records.{job_rank, no_job};
 ghost use Rattle.sorted_list_tests.specs.declared.job.Job.{Job};
-ghost use Rattle.std.specs.Cmp.Lexicographic.{lists_total};
 
 use sorted_list::Record;
 use std::cmp::Ordering;
@@ -26,7 +24,7 @@ impl Record for Job {
 
     ghost vacant = { no_job };
 
-    ghost order = { lawful (on (λ (j : Job). j.name) (lists_total nat_cmp_total)) };
+    ghost order = { lawful (on_total (λ (j : Job). j.name) (lists_total nat_cmp_total)) };
 
     fn compare(&self, other: &Job) -> Ordering {
         self.name.cmp(&other.name)
