@@ -1,8 +1,7 @@
 -- The edges of the held locks, counted and added one after another.
 -- Assumes nothing.
-use Rattle.std.proofs.Common.{◌≡◌, ℕ, ◌+◌, ◌<◌, ◌≤◌, Bool, true, false, cond, not, List, [], map, length, get_or, drop, sym, refl, ap, ◌∙◌, arith}
+use Rattle.std.proofs.Common.{◌≡◌, ℕ, ◌+◌, ◌<◌, ◌≤◌, Bool, true, false, cond, not, List, map, length, get_or, drop, sym, refl, ap, ◌∙◌, arith}
 use Rattle.std.proofs.lemmas.List.{at_drop_more, at_drop_all}
-use Rattle.sorted_list.specs.Laws.{filled}
 use Rattle.sorted_list.specs.Lists.{Held, added, present}
 use Rattle.rows.specs.Orders.{rank_edge}
 use Rattle.rows.specs.declared.edge.Edge.{Edge}

@@ -1,6 +1,6 @@
 -- What a row says of its thread, and what every row keeps.
 -- Assumes nothing.
-use Rattle.std.specs.Prelude.{ℕ, ◌+◌, ◌^◌, Bool, true, not, ◌&&◌, List, [], ◌∷◌, take, set, replicate, bit_or, nat_le, slice_set}
+use Rattle.std.specs.Prelude.{ℕ, ◌+◌, ◌^◌, Bool, true, not, ◌&&◌, List, [], ◌∷◌, take, replicate, bit_or, nat_le, slice_set}
 use Rattle.rows.specs.declared.life.Life.{Life as LifeCode}
 use Rattle.rows.specs.declared.life.Life.TheVariants.{Unborn, Live, Joined}
 use Rattle.recording.specs.Ledger.{Life, unborn as is_unborn, live, joined}

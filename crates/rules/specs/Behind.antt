@@ -3,7 +3,6 @@
 use Rattle.std.specs.Prelude.{◌≡◌, ℕ, ◌≤◌, cond, List, [], length, Decides, ◌==◌, ◌≢◌}
 use Rattle.sorted_list.specs.Laws.{Blank}
 use Rattle.rows.specs.Edges.{blank_edge}
-use Rattle.rows.specs.declared.event.Event.{Event}
 use Rattle.rows.specs.declared.event.Event.TheVariants.{Lock, Release, Start, Join}
 use Rattle.recording.specs.Recording.{Recording, none, ◌▸◌}
 use Rattle.recording.specs.Ledger.{unborn, life, Accepted}

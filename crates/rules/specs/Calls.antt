@@ -1,7 +1,7 @@
 -- What each event call answers, and what it makes of the rows, the edge list and the order. Checks run in the order of
 -- their numbers, and a refused event changes nothing.
 -- Assumes nothing.
-use Rattle.std.specs.Prelude.{ℕ, Bool, true, cond, not, ◌||◌, List, Ok, Err, Result, ◌==◌, nat_lt}
+use Rattle.std.specs.Prelude.{ℕ, Bool, cond, not, ◌||◌, List, Ok, Err, Result, ◌==◌, nat_lt}
 use Rattle.sorted_list.specs.Lists.{Held}
 use Rattle.order.specs.declared.cause.OrderCause.{OrderCause}
 use Rattle.order.specs.Meaning.{Meaning, forked, met, fork_answer, meet_answer}

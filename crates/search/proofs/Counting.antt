@@ -23,7 +23,7 @@ use Rattle.recording.proofs.Walking.{left_none, left_at}
 use Rattle.recording.proofs.Judging.{held_to, full_to, held_next, full_next, over, too_many, count_few, counted, lists}
 use Rattle.search.specs.declared.stack.Stack.{Stack}
 use Rattle.search.specs.declared.tally.Tally.{Tally}
-use Rattle.search.specs.Stacks.{stacked, places, edges, steps, Stands, Walks}
+use Rattle.search.specs.Stacks.{stacked, places, steps, Stands, Walks}
 use Rattle.search.specs.Tallies.{no_place, with_circle, taken, over_budget, tallied}
 
 -- The memory of a list is as long as what it holds.

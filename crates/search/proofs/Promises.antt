@@ -13,7 +13,6 @@ use Rattle.recording.specs.Recording.{Recording, SameThreads}
 use Rattle.recording.specs.Halts.{CanStop}
 use Rattle.recording.specs.Ledger.{Accepted}
 use Rattle.recording.specs.EdgeList.{edge_list}
-use Rattle.recording.specs.Enumeration.{chains}
 use Rattle.recording.specs.Answers.{circle_row, circles}
 use Rattle.recording.specs.Replies.{reply, listed, reported}
 use Rattle.recording.specs.declared.answer.Answer.{Answer}

@@ -1,16 +1,15 @@
 -- The circle of a stack.
 -- Assumes nothing.
-use Rattle.std.proofs.Common.{◌≡◌, ℕ, zero, suc, ◌+◌, ◌-◌, ◌<◌, ◌≤◌, Bool, true, false, ◌&&◌, eqb, ltb, leb, List, [], ◌∷◌, ◌++◌, map, length, get_or, take, set, replicate, sym, refl, ap, ◌∙◌, subst, append_assoc, arith}
+use Rattle.std.proofs.Common.{◌≡◌, ℕ, zero, suc, ◌+◌, ◌-◌, ◌<◌, ◌≤◌, ◌&&◌, eqb, ltb, leb, List, [], ◌∷◌, ◌++◌, map, length, get_or, take, set, replicate, sym, ap, ◌∙◌, append_assoc, arith}
 use Rattle.std.proofs.lemmas.List.{take-replicate, length-map, length-take-le, map_more, set_at, get_or-map, take_all}
-use Rattle.std.proofs.lemmas.Bool.{le-leb, lt-leb, lt-ltb}
+use Rattle.std.proofs.lemmas.Bool.{lt-leb}
 use Rattle.std.proofs.lemmas.Bool.Decides.{nat_tests}
 use Rattle.rows.specs.Circles.{zero_step}
 use Rattle.rows.specs.Edges.{blank_edge}
-use Rattle.rows.specs.declared.edge.Edge.{Edge}
 use Rattle.rows.specs.declared.row.CircleRow.{CircleRow}
 use Rattle.rows.specs.declared.step.Step.{Step}
 use Rattle.recording.specs.Answers.{closed, circle_row}
-use Rattle.recording.specs.Chains.{step, wanted_at_last}
+use Rattle.recording.specs.Chains.{step}
 use Rattle.search.specs.declared.level.Level.{Level}
 use Rattle.search.specs.declared.stack.Stack.{Stack}
 use Rattle.search.specs.Levels.{blank_level}

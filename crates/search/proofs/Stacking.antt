@@ -1,8 +1,8 @@
 -- A stack with one edge more or less.
 -- Assumes nothing.
-use Rattle.std.proofs.Common.{◌≡◌, ℕ, zero, suc, ◌+◌, ◌-◌, ◌<◌, ◌≤◌, Bool, true, false, cond, not, ◌&&◌, eqb, ltb, leb, ◌⊎◌, List, [], ◌∷◌, ◌++◌, map, length, get_or, take, set, sym, refl, ap, ◌∙◌, subst, inl, inr, arith}
+use Rattle.std.proofs.Common.{◌≡◌, ℕ, suc, ◌+◌, ◌-◌, ◌<◌, ◌≤◌, Bool, true, cond, not, ◌&&◌, eqb, ltb, leb, ◌⊎◌, List, [], ◌∷◌, ◌++◌, map, length, get_or, take, set, sym, refl, ap, ◌∙◌, subst, inl, inr, arith}
 use lib.Bits.{bit_and}
-use Rattle.std.proofs.lemmas.List.{take_more, take_more_set, get_or-take, length-take-le, length-map, map_push, same_from_push, length-set, nil_from_length}
+use Rattle.std.proofs.lemmas.List.{take_more, take_more_set, get_or-take, length-take-le, map_push, same_from_push, length-set, nil_from_length}
 use Rattle.std.proofs.lemmas.Bool.{cases_lt, cond_both, and_parts, and_from, eqb-true, leb-true, eq-eqb, ne_eqb, cond-true, cond-false}
 use Rattle.rows.specs.Circles.{every}
 use Rattle.rows.specs.Edges.{in_set, in_range, is_edge}

@@ -1,14 +1,14 @@
 -- One step of the walk, on a stack.
 -- Assumes nothing.
-use Rattle.std.proofs.Common.{◌≡◌, ℕ, ◌+◌, ◌-◌, ◌<◌, ◌≤◌, Bool, true, false, ltb, List, [], ◌∷◌, ◌++◌, map, length, Some, None, sym, refl, ap, ◌∙◌, subst, arith}
+use Rattle.std.proofs.Common.{◌≡◌, ℕ, ◌+◌, ◌-◌, ◌<◌, ◌≤◌, Bool, true, false, ltb, List, [], ◌∷◌, ◌++◌, map, length, Some, None, sym, ap, ◌∙◌, subst, arith}
 use Rattle.std.proofs.lemmas.List.{length-map, length_push, nil_from_length}
 use Rattle.std.proofs.lemmas.Bool.{lt-ltb}
 use Rattle.rows.specs.declared.edge.Edge.{Edge}
-use Rattle.recording.specs.Enumeration.{row_at, EdgeAt, IsChainAt, left}
+use Rattle.recording.specs.Enumeration.{row_at, IsChainAt, left}
 use Rattle.recording.specs.Walks.{may_follow, first_from, left_from}
-use Rattle.recording.proofs.Firsts.{Found, first_found, first_none}
+use Rattle.recording.proofs.Firsts.{first_found, first_none}
 use Rattle.recording.proofs.Reporting.{chain_length}
-use Rattle.recording.proofs.Walking.{follows_chain, last_edge, left_is, walk_on, walk_back, walk_ends}
+use Rattle.recording.proofs.Walking.{follows_chain, last_edge, walk_on, walk_back, walk_ends}
 use Rattle.search.specs.declared.stack.Stack.{Stack}
 use Rattle.search.specs.Stacks.{places, edges, top, Walks}
 use Rattle.search.proofs.Stacking.{size, places_pop, edge_range}

@@ -1,6 +1,6 @@
 -- The edges of a chain, with what the chain has seen.
 -- Assumes nothing.
-use Rattle.std.specs.Prelude.{◌≡◌, ℕ, ◌^◌, Bool, cond, not, ◌&&◌, List, [], ◌∷◌, bit_or}
+use Rattle.std.specs.Prelude.{◌≡◌, ℕ, ◌^◌, List, [], ◌∷◌, bit_or}
 use Rattle.rows.specs.declared.edge.Edge.{Edge}
 use Rattle.search.specs.declared.level.Level.{Level}
 

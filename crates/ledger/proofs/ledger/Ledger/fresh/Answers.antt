@@ -1,4 +1,3 @@
-use Rattle.std.proofs.Common.{sym}
 use Rattle.rules.proofs.Recorded.{nothing_behind_fresh}
 use Rattle.ledger.proofs.ledger.Ledger.fresh.Goals as goal
 

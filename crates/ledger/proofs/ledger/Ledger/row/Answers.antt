@@ -1,5 +1,5 @@
-use Rattle.std.proofs.Common.{◌≡◌, ◌≤◌, true, sym, ap, ◌∙◌}
-use Rattle.ledger.specs.Rows.{thread_row, tidy}
+use Rattle.std.proofs.Common.{sym, ap, ◌∙◌}
+use Rattle.ledger.specs.Rows.{thread_row}
 use Rattle.ledger.proofs.Tables.{row_said}
 use Rattle.ledger.proofs.ledger.Ledger.row.Goals as goal
 

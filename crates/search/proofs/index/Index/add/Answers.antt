@@ -1,4 +1,4 @@
-use Rattle.std.proofs.Common.{◌≡◌, ◌<◌, ◌&&◌, ◌||◌, eqb, length, get_or, set, sym, refl, ap, ◌∙◌, rules}
+use Rattle.std.proofs.Common.{◌<◌, ◌&&◌, ◌||◌, eqb, length, get_or, set, sym, refl, ap, ◌∙◌, rules}
 use Rattle.rows.specs.Edges.{is_edge, in_set}
 use Rattle.search.proofs.Blocks.{marked, and_true}
 use Rattle.search.proofs.index.Index.add.Goals as goal

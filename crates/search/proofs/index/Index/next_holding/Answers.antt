@@ -1,5 +1,5 @@
 use Rattle.std.proofs.Common.{◌<◌, length, sym, ◌∙◌, arith}
-use Rattle.recording.proofs.Firsts.{first_past, first_here, first_skip}
+use Rattle.recording.proofs.Firsts.{first_past}
 use Rattle.search.specs.Indexes.{holding}
 use Rattle.search.proofs.Blocks.{in_block, gap_on, gap_none, blocks_on, scanned_to}
 use Rattle.search.proofs.index.Index.next_holding.Goals as goal

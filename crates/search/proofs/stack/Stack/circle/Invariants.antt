@@ -1,4 +1,4 @@
-use Rattle.std.proofs.Common.{◌≡◌, ◌-◌, ◌++◌, map, length, take, replicate}
+use Rattle.std.proofs.Common.{◌≡◌, ◌-◌, ◌++◌, map, take, replicate}
 use Rattle.rows.specs.Circles.{zero_step}
 use Rattle.recording.specs.Chains.{step}
 use Rattle.search.specs.Stacks.{edges}

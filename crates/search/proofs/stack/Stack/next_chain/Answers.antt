@@ -1,11 +1,11 @@
-use Rattle.std.proofs.Common.{◌≡◌, ℕ, ◌+◌, ◌<◌, ◌≤◌, ltb, [], ◌∷◌, ◌++◌, length, get_or, sym, refl, ap, ◌∙◌, subst, arith}
+use Rattle.std.proofs.Common.{◌+◌, ◌<◌, ◌≤◌, ltb, [], ◌∷◌, ◌++◌, length, get_or, sym, ap, ◌∙◌, subst, arith}
 use Rattle.rows.specs.Edges.{blank_edge}
 use Rattle.std.proofs.lemmas.List.{get_or_default}
 use Rattle.std.proofs.lemmas.Bool.{eqb-true, eqb-false}
 use Rattle.recording.specs.Enumeration.{left}
 use Rattle.recording.specs.Walks.{left_from}
 use Rattle.recording.proofs.Walking.{left_is}
-use Rattle.search.specs.Stacks.{places, top}
+use Rattle.search.specs.Stacks.{places}
 use Rattle.search.proofs.Stacking.{places_push, walks_push, walks_pop, edge_top}
 use Rattle.search.proofs.Stepping.{steps_on, steps_end, steps_back, places_none, is_more}
 use Rattle.search.proofs.stack.Stack.next_chain.Goals as goal

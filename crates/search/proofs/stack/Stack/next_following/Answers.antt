@@ -1,9 +1,8 @@
-use Rattle.std.proofs.Common.{◌≡◌, ℕ, ◌+◌, ◌<◌, ◌≤◌, length, sym, ap, ◌∙◌, arith}
+use Rattle.std.proofs.Common.{sym, ap, ◌∙◌, arith}
 use Rattle.rows.specs.Edges.{blank_edge}
-use Rattle.rows.specs.declared.edge.Edge.{Edge}
 use Rattle.std.proofs.lemmas.List.{get_or_default}
 use Rattle.recording.specs.Walks.{may_follow}
-use Rattle.recording.proofs.Firsts.{Found, first_found, both_none, both_here, both_on}
+use Rattle.recording.proofs.Firsts.{first_found, both_none, both_here, both_on}
 use Rattle.search.specs.Indexes.{holding}
 use Rattle.search.specs.Stacks.{top, edges}
 use Rattle.search.proofs.Stacking.{wanted_small, follows_holds}
