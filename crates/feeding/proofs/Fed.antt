@@ -3,7 +3,7 @@
 use Rattle.std.proofs.Common.{◌≡◌, ℕ, ◌≤◌, Bool, true, false, cond, leb, ◌⊎◌, List, [], ◌∷◌, length, Ok, Err, Result, sym, refl, ap, ◌∙◌, inl, inr, ⊎_elim, arith}
 use Rattle.std.proofs.lemmas.Bool.{cond-true, cond-false, cases_Bool, leb-true, leb-false, le-leb}
 use Rattle.rows.specs.declared.event.Event.{Event}
-use Rattle.text.proofs.Results.{ok_or_err, ok_same, err_same}
+use Rattle.text.proofs.Results.{ok_or_err, err_same}
 use Rattle.rules.specs.States.{State, after}
 use Rattle.feeding.specs.declared.fault.Fault.{Fault}
 use Rattle.feeding.specs.declared.fault.Stop.{Stop}

@@ -1,6 +1,6 @@
 -- The recording behind, as a file is fed.
 -- Assumes nothing.
-use Rattle.std.proofs.Common.{◌≡◌, ℕ, ◌⊎◌, List, [], ◌∷◌, Ok, Err, sym, refl, ap, ◌∙◌, subst, inl, inr, arith}
+use Rattle.std.proofs.Common.{◌≡◌, ℕ, ◌⊎◌, List, [], ◌∷◌, Err, sym, refl, ap, ◌∙◌, subst, inl, inr, arith}
 use Rattle.order.specs.declared.cause.OrderCause.{OrderCause}
 use Rattle.order.specs.declared.cause.OrderCause.TheVariants.{End}
 use Rattle.rows.specs.declared.event.Event.{Event}
@@ -11,9 +11,8 @@ use Rattle.rules.specs.declared.cause.EventCause.TheVariants.{Ledger as in-ledge
 use Rattle.rules.specs.Behind.{Behind}
 use Rattle.rules.specs.Calls.{unless_refused}
 use Rattle.rules.specs.Laws.{ListsAreRecorded, EndsAreOpen}
-use Rattle.rules.specs.States.{State, answer, after, after_all, recorded_all}
-use Rattle.feeding.specs.declared.fault.Cause.{Cause}
-use Rattle.feeding.specs.declared.fault.Cause.TheVariants.{Text, Ledger, Order}
+use Rattle.rules.specs.States.{State, after, after_all, recorded_all}
+use Rattle.feeding.specs.declared.fault.Cause.TheVariants.{Text, Order}
 use Rattle.feeding.specs.declared.fault.Fault.{Fault}
 use Rattle.feeding.specs.declared.fault.Stop.{Stop}
 use Rattle.feeding.specs.Files.{events_taken, after_file, AllAccepted, TooLong, FirstFault, Bad}

@@ -15,7 +15,7 @@ use Rattle.feed.specs.Files.{file_of, AllSayable}
 use Rattle.feeding.specs.Files.{fed, taken, AllAccepted, Bad}
 use Rattle.feed.specs.Lines.{onto, lines}
 use Rattle.feeding.specs.Stops.{event_stop, unless_stopped, read_as, line_answer}
-use Rattle.feeding.proofs.Feeding.{fed_more, fed_stop, taken_more, taken_stop}
+use Rattle.feeding.proofs.Feeding.{fed_more, fed_stop, taken_more}
 use Rattle.feed.proofs.Splitting.{lines_split}
 use Rattle.feed.proofs.Texts.{Ended, lines_of_ended}
 

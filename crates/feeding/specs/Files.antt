@@ -4,7 +4,7 @@ use Rattle.std.specs.Prelude.{◌≡◌, ℕ, ◌+◌, ◌<◌, ◌≤◌, cond,
 use Rattle.rows.specs.declared.event.Event.{Event}
 use Rattle.text.specs.declared.fault.LineFault.{LineFault}
 use Rattle.text.specs.declared.fault.TextCause.TheVariants.{Size}
-use Rattle.text.specs.Lines.{Sayable, text_of, reading}
+use Rattle.text.specs.Lines.{reading}
 use Rattle.rules.specs.declared.cause.EventCause.{EventCause}
 use Rattle.rules.specs.States.{State, answer, after, after_all}
 use Rattle.feeding.specs.declared.fault.Fault.{Fault}

@@ -1,11 +1,11 @@
 -- What the whole job says of a file, from what its two parts say.
 -- Assumes nothing.
-use Rattle.std.proofs.Common.{◌≡◌, ℕ, Bool, true, false, cond, ltb, ◌⊎◌, List, [], length, Ok, Err, Result, sym, refl, ap, ◌∙◌, subst, inl, inr}
+use Rattle.std.proofs.Common.{◌≡◌, ℕ, Bool, true, false, cond, ltb, List, length, Ok, Err, Result, sym, refl, ap, ◌∙◌, subst, inl, inr}
 use Rattle.sorted_list.specs.Lists.{Held}
 use Rattle.rows.specs.declared.event.Event.{Event}
 use Rattle.rows.specs.declared.row.CircleRow.{CircleRow}
 use Rattle.text.proofs.Results.{ok_or_err, ok_same, err_same}
-use Rattle.recording.specs.Recording.{Recording, none, followed, SameThreads}
+use Rattle.recording.specs.Recording.{none, followed}
 use Rattle.recording.specs.Answers.{circles}
 use Rattle.recording.specs.Replies.{reply, reply_to, listed, reported}
 use Rattle.recording.specs.declared.answer.Answer.{Answer}
@@ -14,7 +14,7 @@ use Rattle.recording.specs.declared.cause.SearchCause.TheVariants.{Budget, Place
 use Rattle.rules.specs.Behind.{Behind}
 use Rattle.rules.specs.States.{State, fresh_state}
 use Rattle.rules.proofs.Recorded.{nothing_behind_fresh, lists_are_recorded, ends_are_open}
-use Rattle.feeding.specs.Files.{file_answer, events_taken, after_file, Says}
+use Rattle.feeding.specs.Files.{file_answer, after_file, Says}
 use Rattle.feeding.specs.Stops.{search_fault}
 use Rattle.feeding.specs.declared.fault.Fault.{Fault}
 use Rattle.feeding.proofs.Fed.{feeds}

@@ -1,8 +1,7 @@
 -- The whole job: from the bytes of a file to the circles in which its recording can stop.
 -- Assumes nothing.
-use Rattle.std.specs.Prelude.{◌≡◌, ℕ, Bool, ◌⊎◌, List, length, Ok, Err, Result}
+use Rattle.std.specs.Prelude.{◌≡◌, ℕ, ◌⊎◌, List, length, Ok, Err, Result}
 use Rattle.sorted_list.specs.Lists.{Held}
-use Rattle.rows.specs.declared.edge.Edge.{Edge}
 use Rattle.rows.specs.declared.event.Event.{Event}
 use Rattle.rows.specs.declared.row.CircleRow.{CircleRow}
 use Rattle.recording.specs.Recording.{none, followed, SameThreads}

@@ -1,4 +1,4 @@
-use Rattle.std.proofs.Common.{◌≡◌, sym, ◌∙◌, subst}
+use Rattle.std.proofs.Common.{sym, ◌∙◌, subst}
 use Rattle.rules.specs.Behind.{Behind}
 use Rattle.rules.proofs.Recorded.{lists_are_recorded, ends_are_open}
 use Rattle.feeding.specs.Files.{Feeds}

@@ -1,20 +1,7 @@
-use Rattle.std.proofs.Common.{◌≡◌, ◌+◌, ◌<◌, length, Ok, Err, sym, refl, ap, ◌∙◌, arith}
+use Rattle.std.proofs.Common.{◌<◌, length, sym, refl, ap, ◌∙◌, arith}
 use Rattle.std.proofs.lemmas.Result.{err_from_is_err_and}
 use Rattle.std.proofs.lemmas.Bool.{eqb-true, eqb-false}
-use Rattle.ledger.specs.Ledgers.{state_with}
-use Rattle.feed.specs.Lines.{first_of, lines}
-use Rattle.feeding.specs.Stops.{line_answer, line_after}
-use Rattle.feeding.proofs.Feeding.{
-  Going,
-  going,
-  going_more,
-  going_fault,
-  going_left,
-  going_end,
-  going_all,
-  numbered_ok,
-  numbered_err,
-}
+use Rattle.feeding.proofs.Feeding.{going, going_more, going_fault, going_left, going_end, going_all, numbered_ok, numbered_err}
 use Rattle.feed.proofs.Splitting.{later_less}
 use Rattle.feeding.proofs.file.feed_lines.Given.{Over}
 use Rattle.feeding.proofs.file.feed_lines.Goals as goal
