@@ -43,7 +43,7 @@ pub record Going (limit : ℕ) (whole : State) (file : List ℕ) (s : State) (re
 
 module _ {limit : ℕ} {whole : State} {file : List ℕ} {s : State} {rest : List ℕ} {n : ℕ} (g : Going limit whole file s rest n) where
   -- l is the next line, and t what it makes of s
-  module _ {l : List ℕ} {t : State} (some : 0 < length rest) (first : l ≡ first_of rest) (t-is : t ≡ line_after limit s l) where
+  module _ {l : List ℕ} {t : State} (some : 0 < length rest) (first : l ≡ first_of rest) (t_is : t ≡ line_after limit s l) where
     split : lines rest ≡ l ∷ lines (later_of rest)
     split = lines_split rest some ∙ ap (λ k. k ∷ lines (later_of rest)) (sym first)
 
@@ -51,7 +51,7 @@ module _ {limit : ℕ} {whole : State} {file : List ℕ} {s : State} {rest : Lis
         → Going limit whole file t later (n + 1)
     going_more rest-is e h =
         let ls = lines (later_of rest) in
-        rw (t-is, after_more limit s l ls e h, rest-is) (record {
+        rw (t_is, after_more limit s l ls e h, rest-is) (record {
           answers = sym (fed_more limit s l ls e h n) ∙ ap (fed limit s n) (sym split) ∙ g.answers;
           leaves = ap (after_all limit s) (sym (taken_more limit s l ls e h))
               ∙ ap (λ k. after_all limit s (taken limit s k)) (sym split) ∙ g.leaves;
@@ -64,7 +64,7 @@ module _ {limit : ℕ} {whole : State} {file : List ℕ} {s : State} {rest : Lis
 
       pub going_left : t ≡ after_all limit whole (taken limit whole (lines file))
       going_left =
-          t-is ∙ after_stop limit s l (lines (later_of rest)) stop h
+          t_is ∙ after_stop limit s l (lines (later_of rest)) stop h
           ∙ ap (after_all limit s) (sym (taken_stop limit s l (lines (later_of rest)) stop h))
           ∙ ap (λ k. after_all limit s (taken limit s k)) (sym split) ∙ g.leaves
 

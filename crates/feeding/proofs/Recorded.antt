@@ -7,7 +7,7 @@ use Rattle.rows.specs.declared.event.Event.{Event}
 use Rattle.text.specs.declared.fault.TextCause.{TextCause}
 use Rattle.recording.specs.Recording.{Recording, ◌▸◌, followed}
 use Rattle.rules.specs.declared.cause.EventCause.{EventCause}
-use Rattle.rules.specs.declared.cause.EventCause.TheVariants.{Ledger as in-ledger, Order as in_order}
+use Rattle.rules.specs.declared.cause.EventCause.TheVariants.{Ledger as in_ledger, Order as in_order}
 use Rattle.rules.specs.Behind.{Behind}
 use Rattle.rules.specs.Calls.{unless_refused}
 use Rattle.rules.specs.Laws.{ListsAreRecorded, EndsAreOpen}
@@ -31,7 +31,7 @@ text≢order : {x : TextCause} {y : OrderCause} → Text x ≡ Order y → ⊥
 text≢order e = let z : ◌≡◌ {A = ℕ} 0 1 = cc in omega arith
 
 event_order : (c : EventCause) → (event_stop c).cause ≡ Order End → c ≡ in_order End
-event_order (in-ledger c) e = let z : ◌≡◌ {A = ℕ} 0 1 = cc in absurd (omega arith)
+event_order (in_ledger c) e = let z : ◌≡◌ {A = ℕ} 0 1 = cc in absurd (omega arith)
 event_order (in_order c) e = let same : c ≡ End = cc in ap in_order same
 
 module _ (recorded : ListsAreRecorded) (opens : EndsAreOpen) (limit : ℕ) (s : State) (ρ : Recording) (b : Behind ρ s) where

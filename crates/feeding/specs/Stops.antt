@@ -6,7 +6,7 @@ use Rattle.text.specs.declared.fault.LineFault.{LineFault}
 use Rattle.text.specs.Lines.{reading}
 use Rattle.recording.specs.declared.cause.SearchCause.{SearchCause}
 use Rattle.rules.specs.declared.cause.EventCause.{EventCause}
-use Rattle.rules.specs.declared.cause.EventCause.TheVariants.{Ledger as in-ledger, Order as in_order}
+use Rattle.rules.specs.declared.cause.EventCause.TheVariants.{Ledger as in_ledger, Order as in_order}
 use Rattle.rules.specs.Calls.{Answer}
 use Rattle.rules.specs.States.{State, answer, after}
 use Rattle.feeding.specs.declared.fault.Fault.{Fault}
@@ -18,7 +18,7 @@ abbrev pub text_stop : LineFault → Stop
 text_stop f = record { column = f.column; cause = Text f.cause }
 
 abbrev pub event_stop : EventCause → Stop
-event_stop (in-ledger c) = record { column = 1; cause = Ledger c }
+event_stop (in_ledger c) = record { column = 1; cause = Ledger c }
 event_stop (in_order c) = record { column = 1; cause = Order c }
 
 abbrev pub at_line : ℕ → Stop → Fault

@@ -18,7 +18,7 @@ module _ {X : Type 0} (test : X → Bool) (some : List X → Bool) (none : some 
   some_found d low is = sym (split d low ∙ or_left (test (get_or xs i d)) (some (drop (i + 1) xs)) is)
 
   pub some_passes : (d : X) → i < length xs → test (get_or xs i d) ≡ false → some (drop (i + 1) xs) ≡ some xs
-  some_passes d low not-here = sym (split d low ∙ or_skip (test (get_or xs i d)) (some (drop (i + 1) xs)) not-here)
+  some_passes d low not_here = sym (split d low ∙ or_skip (test (get_or xs i d)) (some (drop (i + 1) xs)) not_here)
 
   pub some_ends : length xs ≤ i → false ≡ some xs
   some_ends high = sym (sym inv ∙ at_drop_all some xs i high ∙ none)

@@ -5,7 +5,7 @@ use Rattle.std.proofs.lemmas.List.{get_or-set_same, get_or-set_other, set_past, 
 use Rattle.std.proofs.lemmas.Bool.{cases_lt, cases_eq}
 use Rattle.rules.specs.Rows.{ThreadRow, row_at}
 use Rattle.ledger.specs.declared.table.Table.{Table}
-use Rattle.ledger.specs.Rows.{thread_row, unborn, tidy}
+use Rattle.ledger.specs.Rows.{thread_row, unstarted, tidy}
 use Rattle.ledger.specs.Tables.{table_rows, row_in, no_row, Counted, Tidy, changed, Changed}
 
 get_or_map_all : {X Y : Type 0} (f : X → Y) (xs : List X) (i : ℕ) (d : X) → get_or (map f xs) i (f d) ≡ f (get_or xs i d)
@@ -48,8 +48,8 @@ replicate_each P zero v x d here past = past
 replicate_each P (suc n) zero x d here past = here
 replicate_each P (suc n) (suc v) x d here past = replicate_each P n v x d here past
 
-pub blank_counted : (table : Table) → table.rows ≡ replicate 64 unborn → Counted table
-blank_counted table e v = rw e (replicate_each (λ r. r.count ≤ 64) 64 v unborn no_row (omega arith) (omega arith))
+pub blank_counted : (table : Table) → table.rows ≡ replicate 64 unstarted → Counted table
+blank_counted table e v = rw e (replicate_each (λ r. r.count ≤ 64) 64 v unstarted no_row (omega arith) (omega arith))
 
-pub blank_tidy : (table : Table) → table.rows ≡ replicate 64 unborn → Tidy table
-blank_tidy table e v = rw e (replicate_each (λ r. tidy (thread_row r).locks ≡ true) 64 v unborn no_row refl refl)
+pub blank_tidy : (table : Table) → table.rows ≡ replicate 64 unstarted → Tidy table
+blank_tidy table e v = rw e (replicate_each (λ r. tidy (thread_row r).locks ≡ true) 64 v unstarted no_row refl refl)

@@ -3,18 +3,18 @@
 use Rattle.std.specs.Prelude.{ℕ, ◌+◌, ◌^◌, Bool, true, not, ◌&&◌, List, [], ◌∷◌, take, replicate, bit_or, nat_le, slice_set}
 use Rattle.rows.specs.declared.life.Life.{Life as LifeCode}
 use Rattle.rows.specs.declared.life.Life.TheVariants.{Unborn, Live, Joined}
-use Rattle.recording.specs.Ledger.{Life, unborn as is_unborn, live, joined}
+use Rattle.recording.specs.Ledger.{Life, unborn, live, joined}
 use Rattle.rules.specs.Rows.{ThreadRow, has}
 use Rattle.ledger.specs.declared.row.Row.{Row}
 
 -- A thread's state, in the words of recordings, and back.
 abbrev pub state_said : LifeCode → Life
-state_said Unborn = is_unborn
+state_said Unborn = unborn
 state_said Live = live
 state_said Joined = joined
 
 abbrev pub state_code : Life → LifeCode
-state_code is_unborn = Unborn
+state_code unborn = Unborn
 state_code live = Live
 state_code joined = Joined
 
@@ -22,8 +22,9 @@ state_code joined = Joined
 abbrev pub thread_row : Row → ThreadRow
 thread_row r = record { state = state_said r.state; segment = r.segment; locks = take r.count r.locks }
 
-abbrev pub unborn : Row
-unborn = record { state = Unborn; segment = 0; locks = replicate 64 0; count = 0 }
+-- The row of a thread that was not yet started.
+abbrev pub unstarted : Row
+unstarted = record { state = Unborn; segment = 0; locks = replicate 64 0; count = 0 }
 
 -- The locks are at most 63, and none is there twice.
 abbrev pub tidy : List ℕ → Bool

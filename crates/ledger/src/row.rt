@@ -2,7 +2,7 @@
 ghost use Rattle.std.specs.Prelude.{◌≡◌, ◌≤◌, ◌==◌};
 ghost use Rattle.std.specs.List.{slice_get};
 ghost use Rattle.rules.specs.Rows.{is_live, is_unborn, holds as row_holds};
-ghost use Rattle.ledger.specs.Rows.{thread_row, unborn};
+ghost use Rattle.ledger.specs.Rows.{thread_row, unstarted};
 
 use rows::Life;
 
@@ -28,7 +28,7 @@ fn is_lock(held: u8, sought: u16) -> bool
 impl Row {
     // A thread that was not yet started.
     pub(crate) fn unborn() -> Row
-        ensures { result ≡ unborn }
+        ensures { result ≡ unstarted }
     {
         Row {
             state: Life::Unborn,

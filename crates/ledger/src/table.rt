@@ -2,7 +2,7 @@
 ghost use Rattle.std.specs.Prelude.{◌≡◌, ℕ, ◌≤◌, false, map, replicate, slice_index_or};
 ghost use Rattle.recording.specs.Ledger.{live, joined};
 ghost use Rattle.rules.specs.Rows.{fresh_rows, holds, held_by_some, with_locks, taken, given_up, in_segment, in_state};
-ghost use Rattle.ledger.specs.Rows.{thread_row, unborn};
+ghost use Rattle.ledger.specs.Rows.{thread_row, unstarted};
 ghost use Rattle.ledger.specs.Tables.{table_rows, no_row, row_in, Counted, Tidy, Changed};
 
 use crate::row::Row;
@@ -29,7 +29,7 @@ fn some_holds(rows: &[Row], lock: u16) -> bool
 impl Table {
     // No thread was started.
     fn unborn() -> Table
-        ensures { result.rows ≡ replicate 64 unborn }
+        ensures { result.rows ≡ replicate 64 unstarted }
     {
         Table {
             rows: [Row::unborn(); 64],

@@ -13,7 +13,7 @@ use Rattle.order.proofs.Calls.{forks, meets}
 use Rattle.order.proofs.Rooms.{past, grown_means, past_grown, past_max, past_upto, upto_bounded, fork_room, new_room, meet_room}
 use Rattle.order.proofs.Runs.{shut_orderly, shut_means, grown_orderly}
 use Rattle.order.proofs.Same.{same_meaning}
-use Rattle.order.proofs.Words.{get_d_set}
+use Rattle.order.proofs.Words.{get_or_set}
 
 pub orderly : (o : Clocks) → Orderly (runs_of o)
 orderly o = record { named = o.named; bounded = o.bounded; apart = o.apart; last = o.last; ahead = o.ahead }
@@ -28,7 +28,7 @@ pub view_shut : (n x : ℕ) (ends ends' : List Bool) (runs : List ℕ) (clocks :
 view_shut n x ends ends' runs clocks h e =
     λ i. record {
       count = n;
-      ends = λ a. (ap (λ l. get_or l a false) e ∙ get_d_set ends x a false false h) i;
+      ends = λ a. (ap (λ l. get_or l a false) e ∙ get_or_set ends x a false false h) i;
       run = λ a. get_or runs a 0;
       seen = λ b. seen_of (get_or clocks b no_clock);
     }
@@ -39,9 +39,9 @@ pub view_grown : (n r : ℕ) (k : Clock) (ends ends' : List Bool) (runs : List �
 view_grown n r k ends ends' runs clocks he hr hc e =
     λ i. record {
       count = n + 1;
-      ends = λ a. (ap (λ l. get_or l a false) e ∙ get_d_set ends n a true false he) i;
-      run = λ a. get_d_set runs n a r 0 hr i;
-      seen = λ b. (ap seen_of (get_d_set clocks n b k no_clock hc) ∙ inner (eqb b n) (get_or clocks b no_clock)) i;
+      ends = λ a. (ap (λ l. get_or l a false) e ∙ get_or_set ends n a true false he) i;
+      run = λ a. get_or_set runs n a r 0 hr i;
+      seen = λ b. (ap seen_of (get_or_set clocks n b k no_clock hc) ∙ inner (eqb b n) (get_or clocks b no_clock)) i;
     }
   where
     inner : (t : Bool) (old : Clock) → seen_of (cond t k old) ≡ cond t (seen_of k) (seen_of old)

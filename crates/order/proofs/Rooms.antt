@@ -101,19 +101,19 @@ module _ (s : Runs) (o : Orderly s) (x : ℕ) (lx : x < s.count) where
 
   pub joins : (c : ℕ → ℕ) → s.ends x ≡ true → ((q : ℕ) → c q ≤ s.count - q) → place s x < c (s.run x)
       → ((z : ℕ) → End s z → c (s.run z) ≤ place s z + 1) → Room (shut s x) (s.run x) c
-  joins c open-x bounded beyond ahead = record {
+  joins c open_x bounded beyond ahead = record {
     named = omega (arith, o.named x lx);
     bounded = bounded;
-    later = λ a l run. omega (arith, o.last x a (lx, open-x) (l, run));
+    later = λ a l run. omega (arith, o.last x a (lx, open_x) (l, run));
     no_end = λ a e run.
         let f = shut_end s x a e in
         f.1 (o.apart a x (f.0.0, lx, run, level a f.0 run));
-    furthest = λ b l. omega (arith, o.ahead x b (lx, open-x) l);
+    furthest = λ b l. omega (arith, o.ahead x b (lx, open_x) l);
     ahead = λ y e. ahead y (shut_end s x y e).0;
   }
     where
       level : (a : ℕ) → End s a → s.run a ≡ s.run x → place s a ≡ place s x
-      level a e run = omega (arith, o.last x a (lx, open-x) (e.0, run), o.last a x e (lx, sym run))
+      level a e run = omega (arith, o.last x a (lx, open_x) (e.0, run), o.last a x e (lx, sym run))
 
   pub fork_room : s.ends x ≡ true → Room (shut s x) (s.run x) (upto_clock s x)
   fork_room e = joins (upto_clock s x) e upto_bounded (omega (arith, own)) upto_ahead

@@ -8,9 +8,9 @@ use Rattle.std.proofs.lemmas.Bool.{cases_eq, cases_lt, cases_order, eq-eqb, ne_e
 use Rattle.std.proofs.lemmas.Bool.Decides.{nat_tests}
 use Rattle.order.specs.Bits.{bit}
 
-pub get_d_set : {X : Type 0} (l : List X) (i j : ℕ) (v d : X) → i < length l
+pub get_or_set : {X : Type 0} (l : List X) (i j : ℕ) (v d : X) → i < length l
     → get_or (set l i v) j d ≡ cond (eqb j i) v (get_or l j d)
-get_d_set l i j v d h =
+get_or_set l i j v d h =
     elim (cases_eq j i) [
       | inl e ↦ rw (eq-eqb j i e) (rw e (get_or-set_same l i v d h))
       | inr ne ↦ rw (ne_eqb j i ne) (get_or-set_other l i j v d ne)
@@ -54,7 +54,7 @@ pub insert_has : (ws : List ℕ) (k j : ℕ) → k / 64 < length ws
 insert_has ws k j h =
     let w = get_or ws (k / 64) 0 in
     let shifted = one_shl (k % 64) 64 (omega arith) in
-    rw (get_d_set ws (k / 64) (j / 64) (bit_or w ((1 * 2 ^ (k % 64)) % 2 ^ 64)) 0 h)
+    rw (get_or_set ws (k / 64) (j / 64) (bit_or w ((1 * 2 ^ (k % 64)) % 2 ^ 64)) 0 h)
     (elim (cases_eq (j / 64) (k / 64)) [
       | inl e ↦
           let same : eqb j k ≡ eqb (j % 64) (k % 64) = grind (arith, nat_tests) in
@@ -73,7 +73,7 @@ module _ (f : ℕ → ℕ → ℕ) (ws a b : List ℕ) (i : ℕ) (merging : Merg
 
   pub merge_more : (v : ℕ) → i < length ws → v ≡ f (get_or ws i 0) (get_or b i 0) → Merging f (set ws i v) a b (i + 1)
   merge_more v h is j =
-      rw (get_d_set ws i j v 0 h)
+      rw (get_or_set ws i j v 0 h)
       (elim (cases_order j i) [
         | inl e ↦ rw (eq-eqb j i e, lt-ltb j (i + 1) (omega arith), e) (is ∙ ap (λ t. f t (get_or b i 0)) merge_here)
         | inr (inl k) ↦ rw (ne_eqb j i (omega arith), lt-ltb j (i + 1) (omega arith)) (merging j ∙ cond-true (ltb j i) _ _ (lt-ltb j i k))

@@ -17,7 +17,7 @@ use Rattle.rows.specs.Circles.{blank_row}
 use Rattle.rows.specs.Orders.{rank_edge, rank_row}
 use Rattle.rows.specs.declared.edge.Edge.{Edge}
 use Rattle.rows.specs.declared.event.Event.TheVariants.{Lock}
-use Rattle.rows.specs.OrdersLemmas.{edge_order}
+use Rattle.rows.specs.OrderLaws.{edge_order}
 use Rattle.recording.specs.Recording.{Recording, none, ◌▸◌}
 use Rattle.recording.specs.Ledger.{unborn, life, Accepted}
 use Rattle.recording.specs.Segments.{next, segment, Parallel}

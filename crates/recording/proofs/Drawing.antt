@@ -12,7 +12,7 @@ use Rattle.rows.specs.Orders.{rank_edge}
 use Rattle.rows.specs.declared.edge.Edge.{Edge}
 use Rattle.rows.specs.declared.event.Event.{Event}
 use Rattle.rows.specs.declared.event.Event.TheVariants.{Lock, Release, Start, Join}
-use Rattle.rows.specs.OrdersLemmas.{edge_order, edge_same}
+use Rattle.rows.specs.OrderLaws.{edge_order, edge_same}
 use Rattle.recording.specs.Recording.{Recording, none, ◌▸◌, size}
 use Rattle.recording.specs.Ledger.{Accepted}
 use Rattle.recording.specs.Edges.{Draws, DrawnAt, Drawn}

@@ -11,7 +11,7 @@ use Rattle.rows.specs.Orders.{rank_row}
 use Rattle.rows.specs.declared.edge.Edge.{Edge}
 use Rattle.rows.specs.declared.row.CircleRow.{CircleRow}
 use Rattle.rows.specs.declared.step.Step.{Step}
-use Rattle.rows.specs.OrdersLemmas.{row_order}
+use Rattle.rows.specs.OrderLaws.{row_order}
 use Rattle.recording.specs.declared.cause.SearchCause.TheVariants.{Budget, Places}
 use Rattle.recording.specs.Enumeration.{chains}
 use Rattle.recording.specs.Answers.{steps_at, closed, circle_row, circles_given, circles}

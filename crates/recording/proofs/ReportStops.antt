@@ -11,7 +11,7 @@ use Rattle.rows.specs.Edges.{is_edge, blank_edge}
 use Rattle.rows.specs.declared.edge.Edge.{Edge}
 use Rattle.rows.specs.declared.row.CircleRow.{CircleRow}
 use Rattle.rows.specs.declared.step.Step.{Step}
-use Rattle.rows.specs.OrdersLemmas.{row_order}
+use Rattle.rows.specs.OrderLaws.{row_order}
 use Rattle.recording.specs.Recording.{Recording}
 use Rattle.recording.specs.Halts.{CanStop}
 use Rattle.recording.specs.Ledger.{Accepted}
@@ -50,7 +50,7 @@ module _ (ρ : Recording) (acc : Accepted ρ) (precedes : ℕ → ℕ → Bool) 
   told_parallel : (x y : ℕ) → Unordered precedes x y → Parallel ρ x y
   told_parallel x y u = (λ z. false≢true (sym u.0 ∙ (tells x y).1 z), λ z. false≢true (sym u.1 ∙ (tells y x).1 z))
 
-  not_told : (x y : ℕ) → ((tells-it : precedes x y ≡ true) → ⊥) → precedes x y ≡ false
+  not_told : (x y : ℕ) → ((tells_it : precedes x y ≡ true) → ⊥) → precedes x y ≡ false
   not_told x y n = ⊎_elim (λ t. absurd (n t)) (λ f. f) (cases_Bool (precedes x y))
 
   parallel_told : (x y : ℕ) → Parallel ρ x y → Unordered precedes x y

@@ -15,7 +15,7 @@ use Rattle.rows.specs.Orders.{rank_row}
 use Rattle.rows.specs.declared.edge.Edge.{Edge}
 use Rattle.rows.specs.declared.row.CircleRow.{CircleRow}
 use Rattle.rows.specs.declared.step.Step.{Step}
-use Rattle.rows.specs.OrdersLemmas.{row_order, row_same}
+use Rattle.rows.specs.OrderLaws.{row_order, row_same}
 use Rattle.recording.specs.Chains.{step, Apart, Pairwise, wanted_at_last, IsChain}
 use Rattle.recording.specs.Enumeration.{Unordered, row_at, EdgeAt, IsChainAt, chains}
 use Rattle.recording.specs.Answers.{steps_at, closed, circle_row, circles_given, circles, GivenBy, Reports, ReportsAreLawful}

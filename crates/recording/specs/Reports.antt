@@ -12,6 +12,7 @@ use Rattle.recording.specs.Segments.{Precedes, Parallel}
 use Rattle.recording.specs.EdgeList.{edge_list}
 use Rattle.recording.specs.Enumeration.{row_at, chains}
 use Rattle.recording.specs.Answers.{circle_row, circles, answer}
+use Rattle.recording.specs.Replies.{reply}
 use Rattle.recording.specs.SameThreads.{in_segment}
 
 -- The function answers whether one segment of the recording precedes another.
@@ -58,3 +59,10 @@ abbrev pub SameThreadsReport : Type 0
 SameThreadsReport =
     (ρ σ : Recording) → Accepted ρ → Accepted σ → SameThreads ρ σ
     → (first second : ℕ → ℕ → Bool) → Tells first ρ → Tells second σ → ReportsAgree ρ σ first second
+
+-- Reports with equal budgets and equally many places get the same reply.
+abbrev pub SameThreadsReply : Type 0
+SameThreadsReply =
+    (ρ σ : Recording) → Accepted ρ → Accepted σ → SameThreads ρ σ
+    → (first second : ℕ → ℕ → Bool) → Tells first ρ → Tells second σ
+    → (budget places : ℕ) → reply (edge_list ρ) first budget places ≡ reply (edge_list σ) second budget places

@@ -5,7 +5,7 @@
 ghost use Rattle.recording.specs.Answers.{ReportsAreLawful};
 ghost use Rattle.recording.specs.EdgeList.{EdgesAreListed};
 ghost use Rattle.recording.specs.Enumeration.{ChainsAreEnumerated};
-ghost use Rattle.recording.specs.Reports.{ReportsAreStops, ReportsTellStops, SameThreadsList, SameThreadsReport};
+ghost use Rattle.recording.specs.Reports.{ReportsAreStops, ReportsTellStops, SameThreadsList, SameThreadsReport, SameThreadsReply};
 ghost use Rattle.recording.specs.SameThreads.{SameThreadsRenumber};
 ghost use Rattle.recording.specs.Stops.{CirclesAreStops, CirclesAreStopsOf};
 
@@ -64,4 +64,9 @@ pub fn same_threads_list()
 // So these recordings have the same chains, circles and answers.
 pub fn same_threads_report()
     ensures { SameThreadsReport }
+{}
+
+// And the same replies.
+pub fn same_threads_reply()
+    ensures { SameThreadsReply }
 {}

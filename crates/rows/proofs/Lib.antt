@@ -1,3 +1,4 @@
+pub mod Orders
 pub mod Conjunctions
 pub mod Linking
 pub mod Deciding

@@ -1,4 +1,4 @@
 pub mod Orders
 pub mod Edges
 pub mod Circles
-pub mod OrdersLemmas
+pub mod OrderLaws

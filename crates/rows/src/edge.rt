@@ -2,7 +2,7 @@
 ghost use Rattle.std.specs.Prelude.{◌≡◌, ◌≤◌, Decides};
 ghost use Rattle.rows.specs.Edges.{in_range, in_set, is_edge, IsEdge, blank_edge};
 ghost use Rattle.rows.specs.Orders.{edge_places, rank_edge};
-ghost use Rattle.rows.specs.OrdersLemmas.{edge_order, edge_same};
+ghost use Rattle.rows.specs.OrderLaws.{edge_order, edge_same};
 
 use sorted_list::{Record, WholeKey};
 use std::cmp::Ordering;

@@ -2,7 +2,7 @@
 ghost use Rattle.std.specs.Prelude.{◌≡◌, Decides};
 ghost use Rattle.rows.specs.Circles.{is_circle_row, IsCircleRow, blank_row};
 ghost use Rattle.rows.specs.Orders.{rank_row};
-ghost use Rattle.rows.specs.OrdersLemmas.{row_order, row_same};
+ghost use Rattle.rows.specs.OrderLaws.{row_order, row_same};
 
 use crate::closing::{are_zero, make_circle};
 use crate::step::Step;

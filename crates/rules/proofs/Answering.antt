@@ -35,22 +35,22 @@ module _ (limit n wanted : ℕ) where
   ok_from (Ok k) e = (k, refl)
   ok_from (Err c) e = absurd (err≢ok e)
 
-  pub order_accepts : (r : Result (Unit {0}) LedgerCause) (open-ends : Bool)
-      → (then_order r (admitted limit n wanted open-ends) ≡ Ok tt) ↔ ((r ≡ Ok tt) × (open-ends ≡ true) × (n + wanted ≤ limit))
-  order_accepts (Ok x) open-ends = (
-    λ e. let k = ok_from (admitted limit n wanted open-ends) e in
-        let a = admits limit n wanted k.0 open-ends k.1 in (refl, a.1, a.0),
-    λ h. ap by_order (cond-true open-ends _ _ h.1 ∙ cond-true (leb (n + wanted) limit) _ _ (le-leb (n + wanted) limit h.2)),
+  pub order_accepts : (r : Result (Unit {0}) LedgerCause) (open_ends : Bool)
+      → (then_order r (admitted limit n wanted open_ends) ≡ Ok tt) ↔ ((r ≡ Ok tt) × (open_ends ≡ true) × (n + wanted ≤ limit))
+  order_accepts (Ok x) open_ends = (
+    λ e. let k = ok_from (admitted limit n wanted open_ends) e in
+        let a = admits limit n wanted k.0 open_ends k.1 in (refl, a.1, a.0),
+    λ h. ap by_order (cond-true open_ends _ _ h.1 ∙ cond-true (leb (n + wanted) limit) _ _ (le-leb (n + wanted) limit h.2)),
   )
-  order_accepts (Err c) open-ends = (λ e. absurd (err≢ok e), λ h. absurd (err≢ok h.0))
+  order_accepts (Err c) open_ends = (λ e. absurd (err≢ok e), λ h. absurd (err≢ok h.0))
 
   end_closed : (a : Bool) → ◌≡◌ {A = Answer} (by_order (cond a (Ok n) (Err Ceiling))) (Err (Order End)) → ⊥
   end_closed true e = let z : ◌≡◌ {A = ℕ} 0 1 = cc in omega arith
   end_closed false e = let z : ◌≡◌ {A = ℕ} 0 1 = cc in omega arith
 
   -- The order speaks of ends only where the checks let the event through and an end is closed.
-  pub order_ends : (r : Result (Unit {0}) LedgerCause) (open-ends : Bool)
-      → then_order r (admitted limit n wanted open-ends) ≡ Err (Order End) → (r ≡ Ok tt) × (open-ends ≡ false)
+  pub order_ends : (r : Result (Unit {0}) LedgerCause) (open_ends : Bool)
+      → then_order r (admitted limit n wanted open_ends) ≡ Err (Order End) → (r ≡ Ok tt) × (open_ends ≡ false)
   order_ends (Ok x) true e = absurd (end_closed (leb (n + wanted) limit) e)
   order_ends (Ok x) false e = (refl, refl)
-  order_ends (Err c) open-ends e = let z : ◌≡◌ {A = ℕ} 0 1 = cc in absurd (omega arith)
+  order_ends (Err c) open_ends e = let z : ◌≡◌ {A = ℕ} 0 1 = cc in absurd (omega arith)

@@ -14,7 +14,7 @@ use Rattle.sorted_list.proofs.Filling.{filled_keeps, filled_only, filled_all, wh
 use Rattle.rows.specs.Edges.{blank_edge}
 use Rattle.rows.specs.Orders.{rank_edge}
 use Rattle.rows.specs.declared.edge.Edge.{Edge}
-use Rattle.rows.specs.OrdersLemmas.{edge_order, edge_same}
+use Rattle.rows.specs.OrderLaws.{edge_order, edge_same}
 use Rattle.recording.specs.Chains.{Pairwise}
 use Rattle.recording.proofs.Sorting.{some_free}
 use Rattle.rules.specs.Drawing.{new_among}

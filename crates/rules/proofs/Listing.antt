@@ -12,7 +12,7 @@ use Rattle.rows.specs.Edges.{blank_edge}
 use Rattle.rows.specs.Orders.{rank_edge}
 use Rattle.rows.specs.declared.edge.Edge.{Edge}
 use Rattle.rows.specs.declared.event.Event.TheVariants.{Lock}
-use Rattle.rows.specs.OrdersLemmas.{edge_order, edge_same}
+use Rattle.rows.specs.OrderLaws.{edge_order, edge_same}
 use Rattle.recording.specs.Recording.{Recording, ◌▸◌}
 use Rattle.recording.specs.Ledger.{Accepted}
 use Rattle.recording.specs.Segments.{segment}

@@ -11,7 +11,7 @@ use Rattle.order.proofs.Histories.{start_lawful}
 use Rattle.rows.specs.Edges.{blank_edge}
 use Rattle.rows.specs.Orders.{rank_edge}
 use Rattle.rows.specs.declared.event.Event.TheVariants.{Lock, Release, Start, Join}
-use Rattle.rows.specs.OrdersLemmas.{edge_order}
+use Rattle.rows.specs.OrderLaws.{edge_order}
 use Rattle.recording.specs.Recording.{Recording, ◌▸◌}
 use Rattle.recording.specs.Ledger.{life, Allowed}
 use Rattle.recording.proofs.Lives.{live≢unborn, live_born}

@@ -1,7 +1,7 @@
 -- The number of each cause for which an event is turned down.
 -- Assumes nothing.
 use Rattle.std.specs.Prelude.{ℕ}
-use Rattle.order.specs.Causes.{cause_number as order-number}
+use Rattle.order.specs.Causes.{cause_number as order_number}
 use Rattle.rules.specs.declared.cause.LedgerCause.{LedgerCause}
 use Rattle.rules.specs.declared.cause.LedgerCause.TheVariants.{Number, NotLive, Holding, Taken, NotHeld, NotUnborn, NotStarted, Edges}
 use Rattle.rules.specs.declared.cause.EventCause.{EventCause}
@@ -19,4 +19,4 @@ cause_number Edges = 10
 
 abbrev pub number_of : EventCause → ℕ
 number_of (Ledger c) = cause_number c
-number_of (Order c) = order-number c
+number_of (Order c) = order_number c

@@ -7,7 +7,7 @@ use lib.Count.{count_trailing_zeros, under}
 use Rattle.std.proofs.lemmas.Nat.{shr-shr, div-add-mod', mod_below, div_below, le-div, mul-le}
 use Rattle.std.proofs.lemmas.List.{get_or_past, get_or-replicate, length-replicate}
 use Rattle.std.proofs.lemmas.Bool.{cases_eq, cases_lt, eq-eqb, ne_eqb, and_cases, or_parts}
-use Rattle.order.proofs.Words.{get_d_set, or_bit, power_bit}
+use Rattle.order.proofs.Words.{get_or_set, or_bit, power_bit}
 use Rattle.rows.specs.Edges.{in_set}
 use Rattle.rows.specs.declared.edge.Edge.{Edge}
 use Rattle.recording.specs.Enumeration.{row_at}
@@ -22,7 +22,7 @@ pub marked : (ws : List ℕ) (h k lock b : ℕ) → h < length ws
     → in_set b (get_or (set ws h (bit_or (get_or ws h 0) (2 ^ k))) lock 0)
     ≡ ((eqb lock h && eqb b k) || in_set b (get_or ws lock 0))
 marked ws h k lock b l =
-    rw (get_d_set ws h lock (bit_or (get_or ws h 0) (2 ^ k)) 0 l)
+    rw (get_or_set ws h lock (bit_or (get_or ws h 0) (2 ^ k)) 0 l)
     (elim (cases_eq lock h) [
       | inl e ↦
           rw (eq-eqb lock h e, e, or_bit (get_or ws h 0) (2 ^ k) b, power_bit k b)

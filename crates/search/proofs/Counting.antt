@@ -10,7 +10,7 @@ use Rattle.rows.specs.Circles.{blank_row}
 use Rattle.rows.specs.Orders.{rank_row}
 use Rattle.rows.specs.declared.edge.Edge.{Edge}
 use Rattle.rows.specs.declared.row.CircleRow.{CircleRow}
-use Rattle.rows.specs.OrdersLemmas.{row_order}
+use Rattle.rows.specs.OrderLaws.{row_order}
 use Rattle.recording.specs.declared.answer.Answer.{Answer}
 use Rattle.recording.specs.declared.cause.SearchCause.{SearchCause}
 use Rattle.recording.specs.declared.cause.SearchCause.TheVariants.{Budget, Places}

@@ -5,7 +5,7 @@ use Rattle.std.specs.Ordering.{is_eq}
 use Rattle.std.proofs.lemmas.Bool.{false≢true}
 use Rattle.sorted_list.proofs.Orders.{equal_self}
 use Rattle.rows.specs.Orders.{rank_row}
-use Rattle.rows.specs.OrdersLemmas.{row_order, row_same}
+use Rattle.rows.specs.OrderLaws.{row_order, row_same}
 use Rattle.rows.specs.declared.row.CircleRow.{CircleRow}
 
 is_equal : (o : Ordering) → is_eq o ≡ true → o ≡ Equal

@@ -1,5 +1,5 @@
 // The walk from chain to chain.
-ghost use Rattle.std.specs.Prelude.{◌≡◌, ◌<◌, ◌≤◌, [], length, nat_lt, slice_index_or};
+ghost use Rattle.std.specs.Prelude.{◌≡◌, ◌<◌, [], length, nat_lt, slice_index_or};
 ghost use Rattle.recording.specs.Enumeration.{left};
 ghost use Rattle.recording.specs.Walks.{may_follow, first_from};
 ghost use Rattle.rows.specs.Edges.{is_edge};

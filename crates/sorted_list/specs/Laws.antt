@@ -1,4 +1,4 @@
--- The laws of adding, over any total order of the records. `List.Memᴰ x xs` says that x is one of xs.
+-- The laws of adding, over any total order of the records. `Memᴰ x xs` says that x is one of xs.
 -- Assumes nothing.
 use Rattle.std.specs.Prelude.{◌≡◌, ℕ, ◌+◌, ◌<◌, false, cond, ◌⊎◌, List, [], ◌∷◌, length, Decides, ◌≢◌, slice_index_or}
 use Rattle.std.specs.declared.cmp.Ordering.TheVariants.{Less, Equal}

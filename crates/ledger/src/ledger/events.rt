@@ -1,9 +1,8 @@
 // The events: the checks, then the order, then the rows. A refused event changes nothing.
 ghost use Rattle.std.specs.Prelude.{◌≡◌};
 ghost use Rattle.sorted_list.specs.Lists.{held};
-ghost use Rattle.rules.specs.Calls.{lock_answer, lock_rows, lock_edges, release_answer, release_rows};
-ghost use Rattle.rules.specs.Calls.{start_answer, start_rows, start_order, join_answer, join_rows, join_order};
-ghost use Rattle.rules.specs.States.{state, answer, after};
+ghost use Rattle.rules.specs.Calls.{lock_answer, lock_rows, lock_edges, release_answer, release_rows, start_answer, start_rows, start_order, join_answer, join_rows, join_order};
+ghost use Rattle.rules.specs.States.{answer, after};
 ghost use Rattle.ledger.specs.Ledgers.{rows_of, state_with};
 
 use super::Ledger;

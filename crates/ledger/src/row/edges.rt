@@ -1,6 +1,6 @@
 // The edges of a thread that takes one more lock.
 ghost use Rattle.std.specs.Prelude.{◌≡◌, ◌≤◌, true, not};
-ghost use Rattle.sorted_list.specs.Lists.{present, added, held as records-held};
+ghost use Rattle.sorted_list.specs.Lists.{present, added, held as records_held};
 ghost use Rattle.rows.specs.Orders.{rank_edge};
 ghost use Rattle.recording.specs.EdgeList.{gather};
 ghost use Rattle.rules.specs.Drawing.{edge_from, edges_from, new_among, drawn_into};
@@ -49,7 +49,7 @@ impl Row {
     // Whether the list does not hold the edge from h.
     fn is_new(&self, edges: &SortedList<'_, Edge>, t: u16, o: u16, h: u8) -> bool
         requires { (self.now.count ≤ 64) × ((tidy (thread_row self.now).locks ≡ true) × ((t ≤ 63) × (o ≤ 63))) }
-        ensures { result ≡ not (present rank_edge (records-held edges.now).records
+        ensures { result ≡ not (present rank_edge (records_held edges.now).records
             (edge_from (thread_row self.now) t o h)) }
     {
         !edges.contains(&self.edge(t, o, h))
@@ -59,7 +59,7 @@ impl Row {
     pub(crate) fn count_new(&self, edges: &SortedList<'_, Edge>, t: u16, o: u16) -> usize
         requires { (self.now.count ≤ 64) × ((tidy (thread_row self.now).locks ≡ true) × ((t ≤ 63) × (o ≤ 63))) }
         ensures { result
-            ≡ new_among (records-held edges.now).records (edges_from (thread_row self.now) t o) }
+            ≡ new_among (records_held edges.now).records (edges_from (thread_row self.now) t o) }
     {
         let mut new = 0;
         for lock in self.held() {
@@ -73,8 +73,8 @@ impl Row {
     // Adds the edge from h. A new one has a place, since the new ones were counted.
     fn draw_edge(&self, edges: &mut SortedList<'_, Edge>, t: u16, o: u16, h: u8)
         requires { (self.now.count ≤ 64) × ((tidy (thread_row self.now).locks ≡ true) × ((t ≤ 63) × (o ≤ 63))) }
-        ensures drawn { records-held edges.new
-            ≡ added rank_edge (records-held edges.old) (edge_from (thread_row self.now) t o h) }
+        ensures drawn { records_held edges.new
+            ≡ added rank_edge (records_held edges.old) (edge_from (thread_row self.now) t o h) }
         ensures lent { edges.new.places.ghost_name ≡ edges.old.places.ghost_name }
     {
         let _ = edges.add(self.edge(t, o, h));
@@ -83,8 +83,8 @@ impl Row {
     // Adds an edge for each held lock.
     pub(crate) fn draw(&self, edges: &mut SortedList<'_, Edge>, t: u16, o: u16)
         requires { (self.now.count ≤ 64) × ((tidy (thread_row self.now).locks ≡ true) × ((t ≤ 63) × (o ≤ 63))) }
-        ensures drawn { records-held edges.new
-            ≡ drawn_into (records-held edges.old) (edges_from (thread_row self.now) t o) }
+        ensures drawn { records_held edges.new
+            ≡ drawn_into (records_held edges.old) (edges_from (thread_row self.now) t o) }
         ensures lent { edges.new.places.ghost_name ≡ edges.old.places.ghost_name }
     {
         let held = self.held();

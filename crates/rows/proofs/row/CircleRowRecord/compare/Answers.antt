@@ -1,6 +1,6 @@
 use Rattle.std.proofs.Common.{◌∙◌}
 use Rattle.std.specs.Ordering.{ordering_then}
-use Rattle.rows.specs.OrdersLemmas.{steps_ranked, then_equal}
+use Rattle.rows.proofs.Orders.{steps_ranked, then_equal}
 use Rattle.rows.proofs.row.CircleRowRecord.compare.Goals as goal
 
 pub returns : goal.returns

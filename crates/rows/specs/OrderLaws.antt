@@ -1,17 +1,16 @@
--- Rows are ordered totally, and equal in the order means the same row.
+-- Rows are ordered totally, and equal in the order means the same row: the laws that the impls of rows give, with their proofs.
 -- Assumes nothing.
 use Rattle.std.specs.Prelude.{◌≡◌, ℕ, List, [], ◌∷◌, map, refl}
 use Rattle.std.specs.declared.cmp.Ordering.TheVariants.{Less, Equal, Greater}
 use Rattle.std.specs.declared.cmp.Ordering.{Ordering}
-use Rattle.std.proofs.Common.{sym, arith}
-use Rattle.std.specs.Cmp.Derive.Mapped.{lex_map}
+use Rattle.std.proofs.Common.{arith}
 use Rattle.std.proofs.lemmas.Cmp.{nat_cmp_total, lists_total, on_total}
 use Rattle.std.specs.Cmp.Lexicographic.{slice_cmp}
 use Rattle.std.specs.Ordering.{ordering_then, nat_cmp}
 use Rattle.std.proofs.lemmas.Bool.Decides.{nat_tests}
 use Rattle.sorted_list.specs.Orders.{TotalOrder}
 use Rattle.sorted_list.proofs.Orders.{lawful}
-use Rattle.rows.specs.Orders.{edge_places, step_places, row_places, rank_edge, rank_step, rank_row}
+use Rattle.rows.specs.Orders.{edge_places, step_places, row_places, rank_edge, rank_row}
 use Rattle.rows.specs.declared.edge.Edge.{Edge}
 use Rattle.rows.specs.declared.row.CircleRow.{CircleRow}
 use Rattle.rows.specs.declared.step.Step.{Step}
@@ -66,16 +65,6 @@ steps_same (x ∷ xs) (y ∷ ys) e =
 
 pub row_order : TotalOrder rank_row
 row_order = lawful (on_total row_places (lists_total (lists_total nat_cmp_total)))
-
--- what the comparison of two arrays of steps answers
-pub steps_ranked : (xs ys : List Step)
-    → slice_cmp rank_step xs ys ≡ slice_cmp (slice_cmp nat_cmp) (map step_places xs) (map step_places ys)
-steps_ranked xs ys = sym (lex_map step_places (slice_cmp nat_cmp) xs ys)
-
-pub then_equal : (o : Ordering) → o ≡ ordering_then o Equal
-then_equal Less = refl
-then_equal Equal = refl
-then_equal Greater = refl
 
 pub row_same : (a b : CircleRow) → rank_row a b ≡ Equal → a ≡ b
 row_same a b h =
