@@ -1,6 +1,7 @@
 // What can be wrong with the text of a recording.
 ghost use Rattle.std.specs.Prelude.{◌≡◌};
 ghost use Rattle.text.specs.Causes.{cause_number};
+ghost use Rattle.text.specs.Pieces.{wrong};
 
 // Why the text layer turns a recording down.
 #[derive(Clone, Copy, PartialEq, Eq, Debug)]
@@ -20,6 +21,16 @@ impl TextCause {
         ensures { result ≡ cause_number self.now }
     {
         *self as u32
+    }
+
+    // The fault of this cause in a column.
+    pub(crate) fn at(self, column: u32) -> LineFault
+        ensures { result ≡ wrong column self }
+    {
+        LineFault {
+            column,
+            cause: self,
+        }
     }
 }
 
