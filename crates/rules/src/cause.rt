@@ -52,6 +52,7 @@ impl EventCause {
     }
 }
 
+// Both are written out: a derived `From` has no contract, and the contracts of the calls name the cause.
 impl From<LedgerCause> for EventCause {
     ghost from_gives = { λ c r. r ≡ Ledger c };
 

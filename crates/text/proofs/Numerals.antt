@@ -7,21 +7,19 @@ use Rattle.std.specs.Char.{is_ascii_digit}
 use Rattle.std.proofs.lemmas.Fmt.{IsAscii-from_digits, decimal-digits_value, digits_decimal, digits_value-decimal, decimal_nonempty, length-decimal-le, first_decimal}
 use Rattle.std.proofs.lemmas.List.{take_at, length-take-le, get_or-take, get_or_append_left}
 use Rattle.std.proofs.lemmas.Str.{IsUtf8-from_ascii}
-use Rattle.std.proofs.lemmas.Str.Parse.{parse_gives, IsNumeralModel, numerals_by_value, tells_digits}
+use Rattle.std.proofs.lemmas.Str.Parse.{parse_gives, IsNumeralModel, digits_value_short, numerals_by_value, tells_digits}
 use Rattle.std.proofs.lemmas.Bool.{cond-true, and_parts, and_from, or_cases, or_left, or_right, leb-true, ltb-true, le-leb, lt-ltb, eqb-false, ne_eqb, not-true, not_from_false}
 use Rattle.text.specs.declared.number.Numeral.{Numeral}
 use Rattle.text.specs.Numbers.{run, tidy, good, front, numeral}
-use Rattle.text.proofs.Runs.{run_within, run_digits, run_value, run_append}
+use Rattle.text.proofs.Runs.{run_within, run_digits, run_append}
 
 own : IsNumeralModel (AllDigits 10) (digits_value 10)
 own = numerals_by_value (AllDigits 10) tells_digits
 
 below_thousand : (bs : List ℕ) (i : ℕ) → i ≤ run bs → i ≤ 3 → digits_value 10 (take i bs) ≤ 999
-below_thousand bs zero h k = omega (arith, run_value bs 0 h)
-below_thousand bs (suc zero) h k = omega (arith, run_value bs 1 h)
-below_thousand bs (suc (suc zero)) h k = omega (arith, run_value bs 2 h)
-below_thousand bs (suc (suc (suc zero))) h k = omega (arith, run_value bs 3 h)
-below_thousand bs (suc (suc (suc (suc i)))) h k = absurd (omega arith)
+below_thousand bs i h k =
+    let long = length-take-le i bs (omega (arith, run_within bs)) in
+    omega (arith, digits_value_short own (take i bs) 3 (run_digits bs i h) (omega arith))
 
 -- the run is text, and short ones are parsed as the numbers that they write
 module _ (bs : List ℕ) (n : ℕ) (all : n ≡ run bs) where

@@ -1,11 +1,10 @@
 -- The run of digits at the front of some bytes.
 -- Assumes nothing.
-use Rattle.std.proofs.Common.{◌≡◌, ℕ, zero, suc, ◌^◌, ◌<◌, ◌≤◌, true, false, cond, List, [], ◌∷◌, ◌++◌, length, get_or, take, refl, ap, ◌∙◌, subst, add-one, arith}
-use Rattle.std.specs.Str.Parse.{AllDigits, digits_value}
+use Rattle.std.proofs.Common.{◌≡◌, ℕ, zero, suc, ◌<◌, ◌≤◌, true, false, cond, List, [], ◌∷◌, ◌++◌, length, get_or, take, refl, ap, ◌∙◌, subst, add-one, arith}
+use Rattle.std.specs.Str.Parse.{AllDigits}
 use Rattle.std.specs.Char.{is_ascii_digit, digit_value}
 use Rattle.std.specs.List.{prefix_len}
-use Rattle.std.proofs.lemmas.Int.Digits.{digits_more, digits_value-lt}
-use Rattle.std.proofs.lemmas.List.{length-take-le}
+use Rattle.std.proofs.lemmas.Int.Digits.{digits_more}
 use Rattle.std.proofs.lemmas.List.Recursion.{same_from_clauses}
 use Rattle.std.proofs.lemmas.List.Sums.{prefix_len-le-length, prefix_len_passes}
 use Rattle.std.proofs.lemmas.Str.Parse.{digit_from_value}
@@ -41,11 +40,6 @@ run_digits bs (suc i) h =
     let at : i < run bs = omega arith in
     let more : i < length bs = omega (arith, run_within bs) in
     subst (λ n. AllDigits 10 (take n bs)) (add-one i) (digits_more 10 bs i more (run_digits bs i (omega arith)) (digit_below_ten (get_or bs i 0) (run_at bs i at)))
-
-pub run_value : (bs : List ℕ) (i : ℕ) → i ≤ run bs → digits_value 10 (take i bs) < 10 ^ i
-run_value bs i h =
-    let long : length (take i bs) ≡ i = length-take-le i bs (omega (arith, run_within bs)) in
-    rw long at (digits_value-lt 10 (take i bs) (run_digits bs i h))
 
 -- digits that no further digit follows
 pub run_append : (ds rest : List ℕ) → AllDigits 10 ds → is_ascii_digit (get_or rest 0 0) ≡ false → run (ds ++ rest) ≡ length ds
