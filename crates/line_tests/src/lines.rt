@@ -4,7 +4,7 @@ use text::{LineFault, TextCause, read_line};
 
 const LINE: [u8; 8] = *b"l(T0,L1)";
 
-// What is wrong where a byte of LINE is, or is missing.
+// What is wrong where a byte of LINE is, or is missing: apart from LINE, so that its text can be read.
 const CAUSES: [TextCause; 8] = [
     TextCause::Letter,
     TextCause::Byte,
@@ -30,17 +30,17 @@ fn every_kind_is_read(rt: HostRuntime) {
 
 #[test]
 fn a_damaged_byte_is_the_fault(rt: HostRuntime) {
-    for (i, cause) in CAUSES.iter().enumerate() {
+    for (i, cause) in CAUSES.into_iter().enumerate() {
         let mut line = LINE;
         line[i] = b'#';
-        assert_eq!(rt; read_line(&line), fault(i as u32 + 1, *cause));
+        assert_eq!(rt; read_line(&line), fault(i as u32 + 1, cause));
     }
 }
 
 #[test]
 fn a_line_cut_short_is_at_fault_one_past_it(rt: HostRuntime) {
-    for (i, cause) in CAUSES.iter().enumerate() {
-        assert_eq!(rt; read_line(&LINE[0..i]), fault(i as u32 + 1, *cause));
+    for (i, cause) in CAUSES.into_iter().enumerate() {
+        assert_eq!(rt; read_line(&LINE[..i]), fault(i as u32 + 1, cause));
     }
 }
 
@@ -70,7 +70,7 @@ const BAD: [(&[u8], u32, TextCause); 20] = [
 
 #[test]
 fn the_leftmost_wrong_byte_decides(rt: HostRuntime) {
-    for (line, column, cause) in BAD.iter() {
-        assert_eq!(rt; read_line(line), fault(*column, *cause));
+    for (line, column, cause) in BAD {
+        assert_eq!(rt; read_line(line), fault(column, cause));
     }
 }

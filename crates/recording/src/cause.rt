@@ -5,18 +5,15 @@ ghost use Rattle.recording.specs.Causes.{cause_number};
 #[derive(Clone, Copy, PartialEq, Eq, Debug)]
 pub enum SearchCause {
     // there are more chains than the budget
-    Budget,
+    Budget = 12,
     // there are more circles than places
-    Places,
+    Places = 13,
 }
 
 impl SearchCause {
     pub fn number(&self) -> u32
         ensures { result ≡ cause_number self.now }
     {
-        match self {
-            SearchCause::Budget => 12,
-            SearchCause::Places => 13,
-        }
+        *self as u32
     }
 }

@@ -9,37 +9,28 @@ use order::OrderCause;
 #[derive(Clone, Copy, PartialEq, Eq, Debug)]
 pub enum LedgerCause {
     // a thread or lock number is above 63
-    Number,
+    Number = 1,
     // t is not live
-    NotLive,
+    NotLive = 2,
     // t holds o already
-    Holding,
+    Holding = 3,
     // another thread holds o
-    Taken,
+    Taken = 4,
     // t does not hold o
-    NotHeld,
+    NotHeld = 5,
     // u is not unborn
-    NotUnborn,
+    NotUnborn = 6,
     // u is t itself, or unborn
-    NotStarted,
+    NotStarted = 7,
     // there are more new edges than free places
-    Edges,
+    Edges = 10,
 }
 
 impl LedgerCause {
     pub fn number(&self) -> u32
         ensures { result ≡ cause_number self.now }
     {
-        match self {
-            LedgerCause::Number => 1,
-            LedgerCause::NotLive => 2,
-            LedgerCause::Holding => 3,
-            LedgerCause::Taken => 4,
-            LedgerCause::NotHeld => 5,
-            LedgerCause::NotUnborn => 6,
-            LedgerCause::NotStarted => 7,
-            LedgerCause::Edges => 10,
-        }
+        *self as u32
     }
 }
 
@@ -61,6 +52,7 @@ impl EventCause {
     }
 }
 
+// Both are written out: a derived `From` has no contract, and the contracts of the calls name the cause.
 impl From<LedgerCause> for EventCause {
     ghost from_gives = { λ c r. r ≡ Ledger c };
 

@@ -1,18 +1,39 @@
 -- Numbers as they stand in a line, and their texts.
 -- Assumes nothing.
-use Rattle.std.proofs.Common.{◌≡◌, ℕ, zero, suc, ◌^◌, ◌<◌, ◌≤◌, Bool, true, false, cond, leb, List, ◌++◌, length, get_or, take, Some, None, decimal, sym, refl, ap, ◌∙◌, subst, ⊎_elim, arith}
-use Rattle.std.specs.Str.Parse.{AllDigits, digits_value}
+use Rattle.std.proofs.Common.{◌≡◌, ℕ, zero, suc, ◌^◌, ◌<◌, ◌≤◌, Bool, true, false, cond, leb, List, ◌++◌, length, get_or, take, Some, None, Ok, decimal, Result, sym, refl, ap, ◌∙◌, subst, ⊎_elim, arith}
+use Rattle.std.specs.Str.{IsUtf8}
+use Rattle.std.specs.Str.Parse.{AllDigits, ParsesUnsigned, digits_value}
 use Rattle.std.specs.Char.{is_ascii_digit}
-use Rattle.std.proofs.lemmas.Fmt.{decimal-digits_value, digits_decimal, digits_value-decimal, decimal_nonempty, length-decimal-le, first_decimal}
+use Rattle.std.proofs.lemmas.Fmt.{IsAscii-from_digits, decimal-digits_value, digits_decimal, digits_value-decimal, decimal_nonempty, length-decimal-le, first_decimal}
 use Rattle.std.proofs.lemmas.List.{take_at, length-take-le, get_or-take, get_or_append_left}
-use Rattle.std.proofs.lemmas.Str.Parse.{IsNumeralModel, numerals_by_value, tells_digits}
+use Rattle.std.proofs.lemmas.Str.{IsUtf8-from_ascii}
+use Rattle.std.proofs.lemmas.Str.Parse.{parse_gives, IsNumeralModel, digits_value_short, numerals_by_value, tells_digits}
 use Rattle.std.proofs.lemmas.Bool.{cond-true, and_parts, and_from, or_cases, or_left, or_right, leb-true, ltb-true, le-leb, lt-ltb, eqb-false, ne_eqb, not-true, not_from_false}
 use Rattle.text.specs.declared.number.Numeral.{Numeral}
 use Rattle.text.specs.Numbers.{run, tidy, good, front, numeral}
-use Rattle.text.proofs.Runs.{run_within, run_digits, run_value, run_append}
+use Rattle.text.proofs.Runs.{run_within, run_digits, run_append}
 
 own : IsNumeralModel (AllDigits 10) (digits_value 10)
 own = numerals_by_value (AllDigits 10) tells_digits
+
+below_thousand : (bs : List ℕ) (i : ℕ) → i ≤ run bs → i ≤ 3 → digits_value 10 (take i bs) ≤ 999
+below_thousand bs i h k =
+    let long = length-take-le i bs (omega (arith, run_within bs)) in
+    omega (arith, digits_value_short own (take i bs) 3 (run_digits bs i h) (omega arith))
+
+-- the run is text, and short ones are parsed as the numbers that they write
+module _ (bs : List ℕ) (n : ℕ) (all : n ≡ run bs) where
+  digits : AllDigits 10 (take n bs)
+  digits = run_digits bs n (omega arith)
+
+  pub run_is_utf8 : IsUtf8 (take n bs)
+  run_is_utf8 = IsUtf8-from_ascii _ (IsAscii-from_digits _ digits)
+
+  pub run_parses : {E : Type 0} (r : Result ℕ E) → ParsesUnsigned 16 10 (take n bs) r → 0 < n → n ≤ 3 → r ≡ Ok (digits_value 10 (take n bs))
+  run_parses r h some few =
+      let long = length-take-le n bs (omega (arith, run_within bs)) in
+      let small = below_thousand bs n (omega arith) few in
+      parse_gives own 16 _ r h digits (omega arith) (omega arith)
 
 some_from_cond : {X : Type 0} (b : Bool) (x y : X) → cond b (Some x) None ≡ Some y → (b ≡ true) × (x ≡ y)
 some_from_cond true x y e = (refl, cc)
@@ -25,13 +46,6 @@ pub record Number (bs : List ℕ) (n : Numeral) : Type 0 where
   pub within : n.digits ≤ length bs
   pub small : n.value ≤ 999
   pub text : decimal n.value ≡ take n.digits bs
-
-below_thousand : (bs : List ℕ) (i : ℕ) → i ≤ run bs → i ≤ 3 → digits_value 10 (take i bs) ≤ 999
-below_thousand bs zero h k = omega (arith, run_value bs 0 h)
-below_thousand bs (suc zero) h k = omega (arith, run_value bs 1 h)
-below_thousand bs (suc (suc zero)) h k = omega (arith, run_value bs 2 h)
-below_thousand bs (suc (suc (suc zero))) h k = omega (arith, run_value bs 3 h)
-below_thousand bs (suc (suc (suc (suc i)))) h k = absurd (omega arith)
 
 -- up to three digits of a run are the text of their number, unless a zero stands before others
 module _ (bs : List ℕ) (i : ℕ) (some : 0 < i) (run_on : i ≤ run bs) (few : i ≤ 3) (lone : get_or bs 0 0 ≡ 48 → i ≡ 1) where

@@ -12,13 +12,6 @@ use Rattle.text.proofs.Results.{ok_same, err_same, ok_or_err}
 use Rattle.text.specs.Lines.{Sayable, Says, Begins, Leftmost, text_of, arguments, event, reading}
 use Rattle.text.proofs.Spelling.{Spells, Parted, spelled_by, reads_spelled}
 
--- r comes of the scan, at a letter k that stands for the events of this kind
-pub read_by : {r : Result Event LineFault} (make : ℕ → ℕ → Event) (kind letter k : ℕ) (bs : List ℕ) (s : Result (List ℕ) LineFault) →
-    letter ≡ kind → scan (arguments k) 2 bs ≡ s → reading (kind ∷ bs) ≡ event make k bs →
-    r ≡ and_then s (λ ns. Ok (make (get_or ns 0 0) (get_or ns 1 0))) → r ≡ reading (letter ∷ bs)
-read_by make kind letter k bs s e f g h =
-    h ∙ sym (ap (λ x. and_then x (λ ns. Ok (make (get_or ns 0 0) (get_or ns 1 0)))) f) ∙ sym g ∙ ap (λ x. reading (x ∷ bs)) (sym e)
-
 -- from the bracket on
 abbrev after_letter : ℕ → ℕ → ℕ → List ℕ
 after_letter k t x = 40 ∷ 84 ∷ (decimal t ++ (44 ∷ k ∷ (decimal x ++ (41 ∷ []))))
@@ -154,7 +147,7 @@ at_letter (b ∷ bs) h =
     }
 
 -- a fault is at the leftmost wrong byte
-pub reading_leftmost : (line : List ℕ) (f : LineFault) → reading line ≡ Err f → Leftmost line f.column
+reading_leftmost : (line : List ℕ) (f : LineFault) → reading line ≡ Err f → Leftmost line f.column
 reading_leftmost [] f h =
     subst (Leftmost []) (sym (same_column 1 Letter f refl h)) (at_letter [] (λ b xs e rest. let z : ◌≡◌ {A = ℕ} 0 1 = cc in absurd (omega arith)))
 reading_leftmost (b ∷ bs) f h =
@@ -167,3 +160,11 @@ reading_leftmost (b ∷ bs) f h =
   where
     head : {x y : ℕ} {us vs : List ℕ} → x ∷ us ≡ y ∷ vs → y ≡ x
     head e = cc
+
+-- what is the reading of a line has its laws
+module _ {line : List ℕ} {r : Result Event LineFault} (is : r ≡ reading line) where
+  pub read_says : (e : Event) → (r ≡ Ok e) ↔ Says line e
+  read_says e = (λ h. (reading_says line e).0 (sym is ∙ h), λ s. is ∙ (reading_says line e).1 s)
+
+  pub read_leftmost : (f : LineFault) → r ≡ Err f → Leftmost line f.column
+  read_leftmost f h = reading_leftmost line f (sym is ∙ h)

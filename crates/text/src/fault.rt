@@ -1,29 +1,35 @@
 // What can be wrong with the text of a recording.
 ghost use Rattle.std.specs.Prelude.{◌≡◌};
 ghost use Rattle.text.specs.Causes.{cause_number};
+ghost use Rattle.text.specs.Pieces.{wrong};
 
 // Why the text layer turns a recording down.
 #[derive(Clone, Copy, PartialEq, Eq, Debug)]
 pub enum TextCause {
     // the line is empty, or begins with a letter that stands for no event
-    Letter,
+    Letter = 14,
     // a wrong, missing or further byte behind the first letter
-    Byte,
+    Byte = 15,
     // no digit where one must stand, a digit after a leading zero, or a fourth digit
-    Digit,
+    Digit = 16,
     // the file is longer than a recording may be
-    Size,
+    Size = 17,
 }
 
 impl TextCause {
     pub fn number(&self) -> u32
         ensures { result ≡ cause_number self.now }
     {
-        match self {
-            TextCause::Letter => 14,
-            TextCause::Byte => 15,
-            TextCause::Digit => 16,
-            TextCause::Size => 17,
+        *self as u32
+    }
+
+    // The fault of this cause in a column.
+    pub(crate) fn at(self, column: u32) -> LineFault
+        ensures { result ≡ wrong column self }
+    {
+        LineFault {
+            column,
+            cause: self,
         }
     }
 }

@@ -8,17 +8,11 @@ use crate::arguments::arguments;
 use crate::fault::{LineFault, TextCause};
 use rows::Event;
 
-// The column of the bracket.
-const BRACKET: u32 = 2;
-
 // No letter, or one that stands for no kind of event.
 fn no_kind() -> LineFault
     ensures { result ≡ wrong 1 Letter }
 {
-    LineFault {
-        column: 1,
-        cause: TextCause::Letter,
-    }
+    TextCause::Letter.at(1)
 }
 
 // The event that a line says, by its first letter and its bytes from the bracket on.
@@ -26,22 +20,10 @@ fn event(letter: char, from_bracket: &[u8]) -> Result<Event, LineFault>
     ensures { result ≡ reading (letter ∷ from_bracket.now) }
 {
     match letter {
-        'l' => {
-            let (thread, lock) = arguments(from_bracket, BRACKET, b'L')?;
-            Ok(Event::Lock(thread, lock))
-        }
-        'u' => {
-            let (thread, lock) = arguments(from_bracket, BRACKET, b'L')?;
-            Ok(Event::Release(thread, lock))
-        }
-        's' => {
-            let (thread, started) = arguments(from_bracket, BRACKET, b'T')?;
-            Ok(Event::Start(thread, started))
-        }
-        'j' => {
-            let (thread, joined) = arguments(from_bracket, BRACKET, b'T')?;
-            Ok(Event::Join(thread, joined))
-        }
+        'l' => arguments(from_bracket, b'L').map(|(thread, lock)| Event::Lock(thread, lock)),
+        'u' => arguments(from_bracket, b'L').map(|(thread, lock)| Event::Release(thread, lock)),
+        's' => arguments(from_bracket, b'T').map(|(thread, started)| Event::Start(thread, started)),
+        'j' => arguments(from_bracket, b'T').map(|(thread, joined)| Event::Join(thread, joined)),
         _ => Err(no_kind()),
     }
 }
@@ -52,8 +34,8 @@ pub fn read_line(line: &[u8]) -> Result<Event, LineFault>
     ensures said { (e : Event) → (result ≡ Ok e) ↔ Says line.now e }
     ensures leftmost { (f : LineFault) → result ≡ Err f → Leftmost line.now f.column }
 {
-    if line.is_empty() {
-        return Err(no_kind());
+    match line {
+        [letter, from_bracket @ ..] => event(char::from(*letter), from_bracket),
+        [] => Err(no_kind()),
     }
-    event(line[0] as char, &line[1..])
 }

@@ -14,41 +14,30 @@ fn digit_run(bytes: &[u8]) -> usize
     ensures value { result ≡ run bytes.now }
     ensures within { result ≤ length bytes.now }
 {
-    for (i, b) in bytes.iter().enumerate() {
-        if !b.is_ascii_digit() {
-            return i;
-        }
-    }
-    bytes.len()
+    bytes.iter().take_while(|b| b.is_ascii_digit()).count()
 }
 
 // The number that the bytes begin with: one to three digits, with no needless zero in front.
 pub(crate) fn number(bytes: &[u8]) -> Option<Numeral>
     ensures { result ≡ numeral bytes.now }
 {
-    let digits = digit_run(bytes);
-    if digits == 0 || digits > 3 || digits > 1 && bytes[0] == b'0' {
-        return None;
+    let digits = &bytes[..digit_run(bytes)];
+    match digits {
+        [_] | [b'1'..=b'9', _] | [b'1'..=b'9', _, _] => Some(Numeral {
+            value: str::from_utf8(digits).ok()?.parse().ok()?,
+            digits: digits.len() as u32,
+        }),
+        _ => None,
     }
-    let mut value: u16 = 0;
-    for i in 0..digits {
-        value = value * 10 + u16::from(bytes[i] - b'0');
-    }
-    Some(Numeral {
-        value,
-        digits: digits as u32,
-    })
 }
 
-// Where the bytes cease to be a number: no digit at all, a digit after a leading zero, or the fourth digit.
+// Where bytes that begin with no number cease to begin one: no digit at all, a digit after a leading zero, or the fourth digit.
 pub(crate) fn wrong_digit(bytes: &[u8]) -> u32
     ensures { result ≡ misplaced bytes.now }
 {
-    if digit_run(bytes) == 0 {
-        0
-    } else if bytes[0] == b'0' {
-        1
-    } else {
-        3
+    match bytes {
+        [b'0', ..] => 1,
+        [b'1'..=b'9', ..] => 3,
+        _ => 0,
     }
 }
