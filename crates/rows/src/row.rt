@@ -10,7 +10,7 @@ use sorted_list::{Record, WholeKey};
 use std::cmp::Ordering;
 
 // A number of steps, and places for 64. Rows ascend by that number, and then by their steps in turn, in all places.
-#[derive(Clone, Copy, PartialEq, Eq, Debug)]
+#[derive(Clone, Copy, PartialEq, Eq, PartialOrd, Ord, Debug)]
 pub struct CircleRow {
     pub count: u8,
     pub steps: [Step; 64],
@@ -37,10 +37,9 @@ impl Record for CircleRow {
 
     ghost order = { row_order };
 
+    #[tactic(auto, using(crate::proofs::Orders::row_ranked))]
     fn compare(&self, other: &CircleRow) -> Ordering {
-        self.count
-            .cmp(&other.count)
-            .then(self.steps.cmp(&other.steps))
+        self.cmp(other)
     }
 
     fn blank() -> CircleRow {
