@@ -1,4 +1,5 @@
 pub mod Orders
+pub mod Every
 pub mod Conjunctions
 pub mod Linking
 pub mod Deciding

@@ -1,6 +1,7 @@
 // Whether steps make a circle.
 ghost use Rattle.std.specs.Prelude.{◌≡◌, not, ◌==◌, nat_lt};
-ghost use Rattle.rows.specs.Circles.{every, closes, apart, smallest_first, is_circle, is_zero};
+ghost use Rattle.std.specs.List.{list_all};
+ghost use Rattle.rows.specs.Circles.{closes, apart, smallest_first, is_circle, is_zero};
 
 use crate::step::Step;
 
@@ -30,14 +31,9 @@ fn closes_up(steps: &[Step]) -> bool
 
 // The thread is none of those in the steps.
 fn is_other(thread: u8, steps: &[Step]) -> bool
-    ensures { result ≡ every (λ z. not (thread == z.thread)) steps.now }
+    ensures { result ≡ list_all (λ z. not (thread == z.thread)) steps.now }
 {
-    for step in steps {
-        if step.thread == thread {
-            return false;
-        }
-    }
-    true
+    steps.iter().all(|z| z.thread != thread)
 }
 
 fn threads_differ(steps: &[Step]) -> bool
@@ -53,14 +49,9 @@ fn threads_differ(steps: &[Step]) -> bool
 
 // The thread is smaller than all those in the steps.
 fn is_below(thread: u8, steps: &[Step]) -> bool
-    ensures { result ≡ every (λ z. nat_lt thread z.thread) steps.now }
+    ensures { result ≡ list_all (λ z. nat_lt thread z.thread) steps.now }
 {
-    for step in steps {
-        if step.thread <= thread {
-            return false;
-        }
-    }
-    true
+    steps.iter().all(|z| thread < z.thread)
 }
 
 fn is_smallest_first(steps: &[Step]) -> bool
@@ -77,12 +68,7 @@ pub(crate) fn make_circle(steps: &[Step]) -> bool
 
 // Nothing stands in these places.
 pub(crate) fn are_zero(steps: &[Step]) -> bool
-    ensures { result ≡ every is_zero steps.now }
+    ensures { result ≡ list_all is_zero steps.now }
 {
-    for step in steps {
-        if !step.is_zero() {
-            return false;
-        }
-    }
-    true
+    steps.iter().all(|z| z.is_zero())
 }
