@@ -1,5 +1,4 @@
 pub mod Orders
-pub mod Every
 pub mod Conjunctions
 pub mod Linking
 pub mod Deciding

@@ -1,5 +1,5 @@
 // The steps of a circle.
-ghost use Rattle.std.specs.Prelude.{◌≡◌};
+ghost use Rattle.std.specs.Prelude.{◌≡◌, ◌==◌};
 ghost use Rattle.rows.specs.Circles.{is_zero};
 
 // One wait in a circle: the thread holds one lock and wants another. Steps ascend by these places in turn.
@@ -11,6 +11,13 @@ pub struct Step {
 }
 
 impl Step {
+    // It wants the lock that the other step holds.
+    pub(crate) fn waits_for(&self, other: &Step) -> bool
+        ensures { result ≡ (self.now.wanted == other.now.held) }
+    {
+        self.wanted == other.held
+    }
+
     pub(crate) fn is_zero(&self) -> bool
         ensures { result ≡ is_zero self.now }
     {
