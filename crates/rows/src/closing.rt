@@ -41,5 +41,5 @@ pub(crate) fn make_circle(steps: &[Step]) -> bool
 pub(crate) fn are_zero(steps: &[Step]) -> bool
     ensures { result ≡ list_all is_zero steps.now }
 {
-    steps.iter().all(|z| z.is_zero())
+    steps.iter().all(|z| *z == Step::ZERO)
 }

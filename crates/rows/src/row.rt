@@ -22,11 +22,9 @@ impl CircleRow {
         ensures value { result ≡ is_circle_row self.now }
         ensures decides { Decides result (IsCircleRow self.now) }
     {
-        let count = self.count as usize;
-        if count > 64 {
-            return false;
-        }
-        make_circle(&self.steps[0..count]) && are_zero(&self.steps[count..])
+        self.steps
+            .split_at_checked(usize::from(self.count))
+            .is_some_and(|(steps, rest)| make_circle(steps) && are_zero(rest))
     }
 }
 
@@ -43,14 +41,9 @@ impl Record for CircleRow {
     }
 
     fn blank() -> CircleRow {
-        let none = Step {
-            thread: 0,
-            held: 0,
-            wanted: 0,
-        };
         CircleRow {
             count: 0,
-            steps: [none; 64],
+            steps: [Step::ZERO; 64],
         }
     }
 }

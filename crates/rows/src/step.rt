@@ -1,6 +1,5 @@
 // The steps of a circle.
 ghost use Rattle.std.specs.Prelude.{◌≡◌, ◌==◌};
-ghost use Rattle.rows.specs.Circles.{is_zero};
 
 // One wait in a circle: the thread holds one lock and wants another. Steps ascend by these places in turn.
 #[derive(Clone, Copy, PartialEq, Eq, PartialOrd, Ord, Debug)]
@@ -11,6 +10,13 @@ pub struct Step {
 }
 
 impl Step {
+    // What stands in the places of a row that no step takes.
+    pub const ZERO: Step = Step {
+        thread: 0,
+        held: 0,
+        wanted: 0,
+    };
+
     // It wants the lock that the other step holds.
     pub(crate) fn waits_for(&self, other: &Step) -> bool
         ensures { result ≡ (self.now.wanted == other.now.held) }
@@ -18,9 +24,4 @@ impl Step {
         self.wanted == other.held
     }
 
-    pub(crate) fn is_zero(&self) -> bool
-        ensures { result ≡ is_zero self.now }
-    {
-        self.thread == 0 && self.held == 0 && self.wanted == 0
-    }
 }
