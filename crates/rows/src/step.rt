@@ -23,5 +23,4 @@ impl Step {
     {
         self.wanted == other.held
     }
-
 }
