@@ -1,9 +1,7 @@
 -- The tests of a circle say what they are tests of.
 -- Assumes nothing.
-use Rattle.std.proofs.Common.{◌≡◌, ℕ, ◌-◌, ◌<◌, ◌≤◌, Bool, false, ◌&&◌, eqb, List, [], ◌∷◌, length, take, drop, Decides, refl, ap, ◌∙◌, arith}
-use native.Mathlib.Nat.{sub-zero}
+use Rattle.std.proofs.Common.{◌≡◌, ℕ, ◌<◌, Bool, false, ◌&&◌, eqb, List, [], ◌∷◌, length, drop, Decides, refl, ap, arith}
 use Rattle.std.specs.List.{AllByRecursion}
-use Rattle.std.proofs.lemmas.List.{length-drop, take_all}
 use Rattle.std.proofs.lemmas.Bool.{leb-true, le-leb, ne_eqb, not_from_false, false≢true}
 use Rattle.std.proofs.lemmas.Bool.Decides.{Decides-eqb, Decides-ltb, Decides-not, Decides-and, Decides-like, Decides-at}
 use Rattle.std.proofs.ByRecursion.{Decides-by_and}
@@ -39,21 +37,11 @@ zero_decides z =
     (λ e. (ap (λ s. s.thread) e, (ap (λ s. s.held) e, ap (λ s. s.wanted) e)))
     (Decides-and _ _ (Decides-eqb z.thread 0) (Decides-and _ _ (Decides-eqb z.held 0) (Decides-eqb z.wanted 0)))
 
-pub row_decides : (r : CircleRow) → Decides (is_circle_row r) (IsCircleRow r)
-row_decides r =
-    Decides-like _
+pub row_decides : (r : CircleRow) (b : Bool) → b ≡ is_circle_row r → Decides b (IsCircleRow r)
+row_decides r b e =
+    Decides-at _ _ e
+    (Decides-like _
     (λ p. record { count = p.0.0; circle = p.0.1; rest = p.1 })
     (λ c. ((c.count, c.circle), c.rest))
     (Decides-and _ _ (Decides-and _ _ (leb-true r.count 64, le-leb r.count 64) (circle_decides (steps_of r)))
-    (every_decides is_zero (λ z. z ≡ zero_step) zero_decides (drop r.count r.steps)))
-
--- the two parts of an array of steps
-pub row_answer : (r : CircleRow) (a b : Bool) → r.count ≤ 64 → length r.steps ≡ 64 →
-    a ≡ is_circle (take (r.count - 0) r.steps) → b ≡ every is_zero (take (64 - r.count) (drop r.count r.steps)) →
-    (a && b) ≡ is_circle_row r
-row_answer r a b small long e f =
-    let rest : length (drop r.count r.steps) ≤ 64 - r.count = omega (arith, length-drop r.count r.steps) in
-    let front = e ∙ ap (λ n. is_circle (take n r.steps)) (sub-zero r.count) in
-    let behind = f ∙ ap (every is_zero) (take_all (64 - r.count) (drop r.count r.steps) rest) in
-    let within = le-leb r.count 64 small in
-    rw (front, behind, within)
+    (every_decides is_zero (λ z. z ≡ zero_step) zero_decides (drop r.count r.steps))))

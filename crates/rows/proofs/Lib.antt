@@ -2,4 +2,3 @@ pub mod Orders
 pub mod Conjunctions
 pub mod Linking
 pub mod Deciding
-pub mod Rounds

@@ -12,23 +12,18 @@ pub struct Circle {
     ghost closed: { is_circle_row row ≡ true },
 }
 
-// The row where it is a circle, else the blank row.
-fn checked(row: CircleRow) -> CircleRow
-    ensures { result ≡ (if is_circle_row row then row else blank_row) }
-{
-    if !row.is_circle() {
-        return CircleRow::blank();
-    }
-    row
-}
-
 impl Circle {
     // The circle of a row that is one, else the blank circle, which has no step.
     pub fn from_row(row: CircleRow) -> Circle
         ensures value { result.row ≡ (if is_circle_row row then row else blank_row) }
         ensures back { (c : Circle) → c.row ≡ row → result ≡ c }
     {
-        Circle { row: checked(row) }
+        let row = if row.is_circle() {
+            row
+        } else {
+            CircleRow::blank()
+        };
+        Circle { row }
     }
 
     // The row in which the circle lies in memory.

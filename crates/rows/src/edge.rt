@@ -1,7 +1,7 @@
 // The edges of the lock graph.
 ghost use Rattle.std.specs.Prelude.{◌≡◌, ◌≤◌, Decides};
 ghost use Rattle.rows.specs.Edges.{in_range, in_set, is_edge, IsEdge, blank_edge};
-ghost use Rattle.rows.specs.Orders.{edge_places, rank_edge};
+ghost use Rattle.rows.specs.Orders.{rank_edge};
 ghost use Rattle.rows.specs.OrderLaws.{edge_order, edge_same};
 
 use sorted_list::{Record, WholeKey};
@@ -9,7 +9,7 @@ use std::cmp::Ordering;
 
 // An edge: the thread held one lock, with others as guards, when it took another, in this segment of its life.
 // Guards are a set, in which lock i is bit i, and the held lock is one of them. Edges ascend by these places in turn.
-#[derive(Clone, Copy, PartialEq, Eq, Debug)]
+#[derive(Clone, Copy, PartialEq, Eq, PartialOrd, Ord, Debug)]
 pub struct Edge {
     pub thread: u8,
     pub held: u8,
@@ -40,18 +40,6 @@ impl Edge {
     {
         self.thread <= 63 && self.held <= 63 && self.wanted <= 63
     }
-
-    fn places(&self) -> [u64; 5]
-        ensures { result ≡ edge_places self.now }
-    {
-        [
-            u64::from(self.thread),
-            u64::from(self.held),
-            u64::from(self.wanted),
-            self.guards,
-            u64::from(self.segment),
-        ]
-    }
 }
 
 impl Record for Edge {
@@ -62,7 +50,7 @@ impl Record for Edge {
     ghost order = { edge_order };
 
     fn compare(&self, other: &Edge) -> Ordering {
-        self.places().cmp(&other.places())
+        self.cmp(other)
     }
 
     fn blank() -> Edge {

@@ -13,7 +13,7 @@ mod step;
 pub use circle::Circle;
 pub use edge::Edge;
 pub use event::Event;
-pub use laws::blank_rows_are_lawful;
+pub use laws::{blank_rows_are_lawful, steps_ascend_by_places};
 pub use life::Life;
 pub use row::CircleRow;
 pub use step::Step;

@@ -10,7 +10,7 @@ use sorted_list::{Record, WholeKey};
 use std::cmp::Ordering;
 
 // A number of steps, and places for 64. Rows ascend by that number, and then by their steps in turn, in all places.
-#[derive(Clone, Copy, PartialEq, Eq, Debug)]
+#[derive(Clone, Copy, PartialEq, Eq, PartialOrd, Ord, Debug)]
 pub struct CircleRow {
     pub count: u8,
     pub steps: [Step; 64],
@@ -22,11 +22,9 @@ impl CircleRow {
         ensures value { result ≡ is_circle_row self.now }
         ensures decides { Decides result (IsCircleRow self.now) }
     {
-        let count = self.count as usize;
-        if count > 64 {
-            return false;
-        }
-        make_circle(&self.steps[0..count]) && are_zero(&self.steps[count..])
+        self.steps
+            .split_at_checked(usize::from(self.count))
+            .is_some_and(|(steps, rest)| make_circle(steps) && are_zero(rest))
     }
 }
 
@@ -37,21 +35,15 @@ impl Record for CircleRow {
 
     ghost order = { row_order };
 
+    #[tactic(auto, using(crate::proofs::Orders::row_ranked))]
     fn compare(&self, other: &CircleRow) -> Ordering {
-        self.count
-            .cmp(&other.count)
-            .then(self.steps.cmp(&other.steps))
+        self.cmp(other)
     }
 
     fn blank() -> CircleRow {
-        let none = Step {
-            thread: 0,
-            held: 0,
-            wanted: 0,
-        };
         CircleRow {
             count: 0,
-            steps: [none; 64],
+            steps: [Step::ZERO; 64],
         }
     }
 }

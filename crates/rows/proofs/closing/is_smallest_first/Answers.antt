@@ -1,10 +1,11 @@
-use Rattle.std.proofs.Common.{sym, ap, ◌∙◌, arith}
-use Rattle.std.proofs.lemmas.Slice.{first_rest}
-use Rattle.std.proofs.lemmas.Bool.{eqb-false}
-use Rattle.rows.specs.Circles.{smallest_first, zero_step}
+use Rattle.std.proofs.Common.{nat_lt, sym, ap, ◌∙◌, rules, tests}
+use Rattle.std.proofs.lemmas.Iterator.{YieldsList-from_slice}
+use Rattle.std.proofs.lemmas.Iterator.Search.{all_from_yields_List}
+use Rattle.rows.specs.Circles.{smallest_first}
 use Rattle.rows.proofs.closing.is_smallest_first.Goals as goal
 
-pub returns-else-is_empty : goal.returns-else-is_empty
-returns-else-is_empty c =
-    let some = eqb-false _ _ (sym c.if-is_empty.ensures) in
-    c.is_below.ensures ∙ sym (ap smallest_first (first_rest c.args.steps.now zero_step (omega arith)))
+pub returns : goal.returns
+returns c =
+    let first = c.in-Some.first.now in
+    let behind = all_from_yields_List (λ z. nat_lt first.thread z.thread) _ _ c.all.result c.all.ensures.ran (YieldsList-from_slice _ c.iter.ensures.rest) (λ x b q k. search (rules, tests)) in
+    behind ∙ sym (ap smallest_first c.in-Some.ensures.cases.0)
