@@ -1,4 +1,5 @@
 pub mod Words
+pub mod Made
 pub mod Same
 pub mod Calls
 pub mod Growing

@@ -2,6 +2,8 @@
 ghost use Rattle.std.specs.Prelude.{◌≡◌, ℕ, ◌<◌, false, ◌||◌, ◌==◌};
 ghost use Rattle.order.specs.Bits.{has};
 
+use std::array;
+
 // Number k is bit k % 64 of word k / 64.
 #[derive(Clone, Copy)]
 pub(crate) struct Bits {
@@ -29,12 +31,12 @@ impl Bits {
         self.words[(k / 64) as usize] |= 1 << (k % 64);
     }
 
-    // Takes the numbers of the other set in.
-    pub(crate) fn merge(&mut self, other: &Bits)
-        ensures { (j : ℕ) → has self.new j ≡ (has self.old j || has other.now j) }
+    // The numbers that are in either set.
+    pub(crate) fn merge(&self, other: &Bits) -> Bits
+        ensures { (j : ℕ) → has result j ≡ (has self.now j || has other.now j) }
     {
-        for i in 0..4 {
-            self.words[i] |= other.words[i];
+        Bits {
+            words: array::from_fn(|i| self.words[i] | other.words[i]),
         }
     }
 }

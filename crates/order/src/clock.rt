@@ -2,6 +2,8 @@
 ghost use Rattle.std.specs.Prelude.{◌≡◌, ℕ, ◌+◌, ◌<◌, max, replicate, if◌then◌else◌, nat_eq};
 ghost use Rattle.order.specs.Clock.{seen_of};
 
+use std::array;
+
 #[derive(Clone, Copy)]
 pub(crate) struct Clock {
     seen: [u8; 127],
@@ -30,11 +32,11 @@ impl Clock {
     }
 
     // The larger of the two for each run.
-    pub(crate) fn merge(&mut self, other: &Clock)
-        ensures { (q : ℕ) → seen_of self.new q ≡ max (seen_of self.old q) (seen_of other.now q) }
+    pub(crate) fn merge(&self, other: &Clock) -> Clock
+        ensures { (q : ℕ) → seen_of result q ≡ max (seen_of self.now q) (seen_of other.now q) }
     {
-        for q in 0..127 {
-            self.seen[q] = self.seen[q].max(other.seen[q]);
+        Clock {
+            seen: array::from_fn(|q| self.seen[q].max(other.seen[q])),
         }
     }
 }

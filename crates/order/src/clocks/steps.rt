@@ -44,9 +44,7 @@ impl Clocks {
         requires { (x < self.now.count) × (y < self.now.count) }
         ensures { (q : ℕ) → seen_of result q ≡ max (upto_clock (runs_of self.now) x q) (upto_clock (runs_of self.now) y q) }
     {
-        let mut clock = self.up_to(x);
-        clock.merge(&self.up_to(y));
-        clock
+        self.up_to(x).merge(&self.up_to(y))
     }
 
     pub(super) fn close(&mut self, x: u16)

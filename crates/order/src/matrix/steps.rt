@@ -36,9 +36,7 @@ impl Matrix {
         requires { (x < self.now.count) × (y < self.now.count) }
         ensures { (a : ℕ) → has result a ≡ (upto (matrix_meaning self.now) x a || upto (matrix_meaning self.now) y a) }
     {
-        let mut past = self.up_to(x);
-        past.merge(&self.up_to(y));
-        past
+        self.up_to(x).merge(&self.up_to(y))
     }
 
     pub(super) fn close(&mut self, x: u16)
