@@ -5,7 +5,7 @@ ghost use Rattle.order.specs.Bits.{has};
 use std::array;
 
 // Number k is bit k % 64 of word k / 64.
-#[derive(Clone, Copy)]
+#[derive(Clone, Copy, Default)]
 pub(crate) struct Bits {
     words: [u64; 4],
 }
@@ -18,10 +18,11 @@ impl Bits {
     }
 
     pub(crate) fn contains(&self, k: u16) -> bool
-        requires { k < 256 }
         ensures { result ≡ has self.now k }
     {
-        (self.words[(k / 64) as usize] >> (k % 64)) % 2 == 1
+        self.words
+            .get((k / 64) as usize)
+            .is_some_and(|word| (word >> (k % 64)) % 2 == 1)
     }
 
     pub(crate) fn insert(&mut self, k: u16)

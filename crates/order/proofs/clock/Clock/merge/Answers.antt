@@ -3,8 +3,8 @@ use Rattle.std.proofs.lemmas.List.{get_or_past}
 use Rattle.order.proofs.Made.{made_at}
 use Rattle.order.proofs.clock.Clock.merge.Goals as goal
 
-pub returns : goal.returns
-returns c =
+pub returns-clause-seen : goal.returns-clause-seen
+returns-clause-seen c =
     let a = c.args.self.now.seen in
     let b = c.args.other.now.seen in
     made_at (λ k. max (get_or a k 0) (get_or b k 0)) (λ k r q m. (search rules, search rules)) c.from_fn.ensures.items
