@@ -28,13 +28,13 @@ impl Clock {
         self.seen[run as usize]
     }
 
-    // One more segment of its run.
-    pub(crate) fn step(&mut self)
-        requires { (self.old.run < 127) × (seen_of self.old self.old.run < 255) }
+    // One more segment of the run.
+    pub(crate) fn step(&mut self, run: u8)
+        requires { (run < 127) × (seen_of self.old run < 255) }
         ensures run { self.new.run ≡ self.old.run }
-        ensures seen { (q : ℕ) → seen_of self.new q ≡ (if nat_eq q self.old.run then seen_of self.old q + 1 else seen_of self.old q) }
+        ensures seen { (q : ℕ) → seen_of self.new q ≡ (if nat_eq q run then seen_of self.old q + 1 else seen_of self.old q) }
     {
-        self.seen[self.run as usize] += 1;
+        self.seen[run as usize] += 1;
     }
 
     // The same in another run.

@@ -18,8 +18,9 @@ impl Clocks {
         ensures run { result.run ≡ (runs_of self.now).run x }
         ensures seen { (q : ℕ) → seen_of result q ≡ upto_clock (runs_of self.now) x q }
     {
-        let mut clock = *self.segments.known(x);
-        clock.step();
+        let last = self.segments.known(x);
+        let mut clock = *last;
+        clock.step(last.run);
         clock
     }
 }
