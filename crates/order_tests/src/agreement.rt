@@ -47,7 +47,7 @@ fn grow(
 }
 
 fn agree_on(rt: &impl Abort, clocks: &Clocks, matrix: &Matrix, y: u16, past: [bool; 130]) {
-    for (x, told) in (0..).zip(past) {
+    for (x, told) in (0..130).zip(past) {
         assert_eq!(rt; clocks.precedes(x, y), told);
         assert_eq!(rt; matrix.precedes(x, y), told);
     }

@@ -3,7 +3,11 @@ use order::Call;
 use std::alloc::AllocError;
 
 // Draws the arrows of a call that answered n.
-pub(crate) fn draw_call(arrows: &mut Vec<(u16, u16)>, call: Call, n: u16) -> Result<(), AllocError> {
+pub(crate) fn draw_call(
+    arrows: &mut Vec<(u16, u16)>,
+    call: Call,
+    n: u16,
+) -> Result<(), AllocError> {
     let drawn = match call {
         Call::Fork(x) => [(x, n), (x, n.wrapping_add(1))],
         Call::Meet(x, y) => [(x, n), (y, n)],
