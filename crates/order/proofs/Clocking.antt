@@ -1,75 +1,63 @@
 -- Clocks as runs, and what a fork and a meet come to.
-use Rattle.std.proofs.Common.{◌≡◌, ℕ, ◌+◌, ◌<◌, max, Bool, true, false, cond, ◌&&◌, ◌||◌, eqb, ltb, List, length, get_or, set, replicate, sym, refl, ap, ◌∙◌, subst, inl, inr, arith}
-use mathlib.Core.Path.{fun_ext}
+use Rattle.std.proofs.Common.{◌≡◌, ℕ, ◌+◌, ◌<◌, max, Bool, true, false, cond, ◌||◌, eqb, ltb, Ok, List, [], ◌∷◌, ◌++◌, length, get_or, set, replicate, sym, refl, ap, ◌∙◌, subst, inl, inr, arith}
 use Rattle.std.proofs.lemmas.List.{get_or-replicate, get_or_past, length-replicate}
-use Rattle.std.proofs.lemmas.Bool.{cases_lt, le-ltb, ltb-true, and_parts, and_right}
+use Rattle.std.proofs.lemmas.Bool.{cases_lt, ltb-true, and_parts}
 use Rattle.order.specs.declared.clock.Clock.{Clock}
-use Rattle.order.specs.declared.clocks.Clocks.{Clocks}
+use Rattle.order.specs.declared.segments.Segment.{Segment}
 use Rattle.order.specs.Clock.{seen_of, no_clock, view}
-use Rattle.order.specs.Clocks.{runs_of}
-use Rattle.order.specs.Meaning.{fresh_order, upto, forked, met}
-use Rattle.order.specs.Runs.{Runs, place, runs_meaning, Orderly, End, upto_clock, shut, grown, Room}
-use Rattle.order.proofs.Calls.{forks, meets}
+use Rattle.order.specs.Meaning.{upto, forked, met, fork_answer, fork_after, meet_answer, meet_after}
+use Rattle.order.specs.Runs.{Runs, runs_meaning, Orderly, End, upto_clock, shut, grown, Room}
+use Rattle.order.specs.Segments.{ends_of, known_of, count_of}
+use Rattle.order.proofs.Calls.{grows, forks, meets, fork_admits, meet_admits}
+use Rattle.order.proofs.Places.{ends_long, length_push, get_or_push, get_or_shut}
 use Rattle.order.proofs.Rooms.{past, grown_means, past_grown, past_max, past_upto, upto_bounded, fork_room, new_room, meet_room}
 use Rattle.order.proofs.Runs.{shut_orderly, shut_means, grown_orderly}
-use Rattle.order.proofs.Same.{same_meaning}
-use Rattle.order.proofs.Words.{get_or_set}
-
-pub orderly : (o : Clocks) → Orderly (runs_of o)
-orderly o = record { named = o.named; bounded = o.bounded; apart = o.apart; last = o.last; ahead = o.ahead }
 
 pub end_of : (s : Runs) (x : ℕ) → (runs_meaning s).ends x ≡ true → End s x
 end_of s x t = let p = and_parts (ltb x s.count) (s.ends x) t in (ltb-true x s.count p.0, p.1)
 
--- ---- writes to the arrays
+-- ---- a segment closed, and one added
 
-pub view_shut : (n x : ℕ) (ends ends' : List Bool) (runs : List ℕ) (clocks : List Clock) → x < length ends → ends' ≡ set ends x false
-    → view n ends' runs clocks ≡ shut (view n ends runs clocks) x
-view_shut n x ends ends' runs clocks h e =
-    λ i. record {
-      count = n;
-      ends = λ a. (ap (λ l. get_or l a false) e ∙ get_or_set ends x a false false h) i;
-      run = λ a. get_or runs a 0;
-      seen = λ b. seen_of (get_or clocks b no_clock);
-    }
+module _ (old new : List (Segment Clock)) where
+  pub view_shut : (x : ℕ) → ends_of new ≡ set (ends_of old) x false → known_of new ≡ known_of old
+      → view new ≡ shut (view old) x
+  view_shut x ends known =
+      λ i. record {
+        count = length (known i);
+        ends = λ a. (ap (λ l. get_or l a false) ends ∙ get_or_shut (ends_of old) x a) i;
+        run = λ a. (get_or (known i) a no_clock).run;
+        seen = λ b. seen_of (get_or (known i) b no_clock);
+      }
 
-pub view_grown : (n r : ℕ) (k : Clock) (ends ends' : List Bool) (runs : List ℕ) (clocks : List Clock)
-    → n < length ends → n < length runs → n < length clocks → ends' ≡ set ends n true
-    → view (n + 1) ends' (set runs n r) (set clocks n k) ≡ grown (view n ends runs clocks) r (seen_of k)
-view_grown n r k ends ends' runs clocks he hr hc e =
-    λ i. record {
-      count = n + 1;
-      ends = λ a. (ap (λ l. get_or l a false) e ∙ get_or_set ends n a true false he) i;
-      run = λ a. get_or_set runs n a r 0 hr i;
-      seen = λ b. (ap seen_of (get_or_set clocks n b k no_clock hc) ∙ inner (eqb b n) (get_or clocks b no_clock)) i;
-    }
-  where
-    inner : (t : Bool) (old : Clock) → seen_of (cond t k old) ≡ cond t (seen_of k) (seen_of old)
-    inner true old = refl
-    inner false old = refl
+  pub view_grown : (k : Clock) → ends_of new ≡ ends_of old ++ true ∷ [] → known_of new ≡ known_of old ++ k ∷ []
+      → view new ≡ grown (view old) k.run (seen_of k)
+  view_grown k ends known =
+      let was = known_of old in
+      let n = count_of old in
+      let at : (a : ℕ) → get_or (known_of new) a no_clock ≡ cond (eqb a n) k (get_or was a no_clock) =
+      λ a. ap (λ l. get_or l a no_clock) known ∙ get_or_push was k no_clock a in
+      λ i. record {
+        count = (ap length known ∙ length_push was k) i;
+        ends = λ a. (ap (λ l. get_or l a false) ends ∙ get_or_push (ends_of old) true false a
+            ∙ ap (λ m. cond (eqb a m) true (get_or (ends_of old) a false)) (ends_long old)) i;
+        run = λ a. (ap (λ c. c.run) (at a) ∙ run_of (eqb a n) (get_or was a no_clock)) i;
+        seen = λ b. (ap seen_of (at b) ∙ inner (eqb b n) (get_or was b no_clock)) i;
+      }
+    where
+      run_of : (t : Bool) (old : Clock) → (cond t k old).run ≡ cond t k.run old.run
+      run_of true old = refl
+      run_of false old = refl
+
+      inner : (t : Bool) (old : Clock) → seen_of (cond t k old) ≡ cond t (seen_of k) (seen_of old)
+      inner true old = refl
+      inner false old = refl
 
 -- ---- the same runs by other names
 
 pub grown_at : {s s' : Runs} {r r' : ℕ} {c c' : ℕ → ℕ} → s ≡ s' → r ≡ r' → ((q : ℕ) → c q ≡ c' q) → grown s r c ≡ grown s' r' c'
 grown_at es er ec = λ i. grown (es i) (er i) (λ q. ec q i)
 
-pub room_at : {s s' : Runs} {r r' : ℕ} {c c' : ℕ → ℕ} → s ≡ s' → r ≡ r' → ((q : ℕ) → c q ≡ c' q) → Room s' r' c' → Room s r c
-room_at {s} {s'} {r} {r'} {c} {c'} es er ec k =
-    subst (λ t. Room t r c) (sym es) (subst (λ t. Room s' t c) (sym er) (subst (Room s' r') (sym (fun_ext ec)) k))
-
 -- ---- the calls
-
-pub fresh_means : (s : Runs) → s.count ≡ 1 → ((q : ℕ) → s.seen 0 q ≡ 0) → ((a : ℕ) → (ltb a 1 && s.ends a) ≡ eqb a 0)
-    → runs_meaning s ≡ fresh_order
-fresh_means s one none ends =
-    same_meaning (runs_meaning s) fresh_order one
-    (λ a b. rw one (elim (cases_lt b 1) [
-      | inl l ↦
-          let z : b ≡ 0 = omega arith in
-          rw (z, le-ltb (place s a) (s.seen 0 (s.run a)) (omega (arith, none (s.run a)))) (and_right (ltb a 1) false refl)
-      | inr g ↦ rw (le-ltb b 1 g) (and_right (ltb a 1) false refl)
-    ]))
-    (λ a. rw one (ends a))
 
 pub fresh_orderly : (s : Runs) → s.count ≡ 1 → s.run 0 ≡ 0 → ((q : ℕ) → s.seen 0 q ≡ 0) → Orderly s
 fresh_orderly s one run none = record {
@@ -97,6 +85,15 @@ module _ (s : Runs) (o : Orderly s) (x : ℕ) (end : End s x) where
       (grown_orderly (shut s x) (s.run x) (upto_clock s x) (shut_orderly s x o) (fork_room s o x end.0 end.1))
       (upto_bounded s o x end.0)
 
+  pub fork_orderly : Orderly (grown (grown (shut s x) (s.run x) (upto_clock s x)) (s.count + 1) (upto_clock s x))
+  fork_orderly =
+      let c = upto_clock s x in
+      let once = grown_orderly (shut s x) (s.run x) c (shut_orderly s x o) (fork_room s o x end.0 end.1) in
+      grown_orderly (grown (shut s x) (s.run x) c) (s.count + 1) c once fork_again
+
+  pub meet_orderly : (y : ℕ) → y < s.count → Orderly (grown (shut s x) (s.run x) (λ q. max (upto_clock s x q) (upto_clock s y q)))
+  meet_orderly y ly = grown_orderly (shut s x) (s.run x) _ (shut_orderly s x o) (meet_room s o x y end.0 ly end.1)
+
   pub fork_means : runs_meaning (grown (grown (shut s x) (s.run x) (upto_clock s x)) (s.count + 1) (upto_clock s x))
       ≡ forked (runs_meaning s) x
   fork_means =
@@ -119,3 +116,27 @@ module _ (s : Runs) (o : Orderly s) (x : ℕ) (end : End s x) where
       (λ a. past_max s (upto_clock s x) (upto_clock s y) a
       ∙ ap (λ b. b || past s (upto_clock s y) a) (past_upto s o x end.0 a)
       ∙ ap (λ b. upto (runs_meaning s) x a || b) (past_upto s o y ly a))
+
+-- ---- what a call leaves
+
+module _ (s : Runs) (o : Orderly s) where
+  pub fork_done : (x n : ℕ) (t : Runs) → fork_answer 127 (runs_meaning s) x ≡ Ok n
+      → t ≡ grown (grown (shut s x) (s.run x) (upto_clock s x)) (n + 1) (upto_clock s x)
+      → Orderly t × (runs_meaning t ≡ fork_after 127 (runs_meaning s) x)
+  fork_done x n t a e =
+      let m = runs_meaning s in
+      let fit = fork_admits 127 m x n a in
+      let end = end_of s x fit.1 in
+      let c = upto_clock s x in
+      let d = e ∙ ap (λ k. grown (grown (shut s x) (s.run x) c) (k + 1) c) fit.2 in
+      (subst Orderly (sym d) (fork_orderly s o x end), ap runs_meaning d ∙ fork_means s o x end ∙ grows _ _ (forked m x) m a)
+
+  pub meet_done : (x y n : ℕ) (t : Runs) → meet_answer 127 (runs_meaning s) x y ≡ Ok n
+      → t ≡ grown (shut s x) (s.run x) (λ q. max (upto_clock s x q) (upto_clock s y q))
+      → Orderly t × (runs_meaning t ≡ meet_after 127 (runs_meaning s) x y)
+  meet_done x y n t a e =
+      let m = runs_meaning s in
+      let fit = meet_admits 127 m x y n a in
+      let end = end_of s x fit.1 in
+      let ly = (end_of s y fit.2).0 in
+      (subst Orderly (sym e) (meet_orderly s o x end y ly), ap runs_meaning e ∙ meet_means s o x end y ly ∙ grows _ _ (met m x y) m a)

@@ -1,7 +1,9 @@
 pub mod Words
+pub mod Made
 pub mod Same
 pub mod Calls
 pub mod Growing
+pub mod Places
 pub mod Matrices
 pub mod Paths
 pub mod Histories

@@ -1,10 +1,10 @@
 -- Single bits of a word, and one element set in a list.
-use Rattle.std.proofs.Common.{◌≡◌, ℕ, ◌+◌, ◌-◌, ◌*◌, ◌/◌, ◌%◌, ◌^◌, ◌<◌, ◌≤◌, max, Bool, true, false, cond, ◌||◌, eqb, ltb, List, length, get_or, set, sym, refl, ap, ◌∙◌, inl, inr, one-mul, arith}
+use Rattle.std.proofs.Common.{◌≡◌, ℕ, ◌+◌, ◌-◌, ◌*◌, ◌/◌, ◌%◌, ◌^◌, ◌<◌, max, Bool, true, false, cond, ◌||◌, eqb, List, length, get_or, set, sym, refl, ap, ◌∙◌, inl, inr, one-mul, arith}
 use native.Mathlib.Nat.{div-eq_of_lt}
 use lib.Bits.{bit_or, or_step, or_shr}
 use Rattle.std.proofs.lemmas.Nat.{pow-add, shl-shr, pow_below, one_shl}
-use Rattle.std.proofs.lemmas.List.{get_or-set_same, get_or-set_other, get_or_past}
-use Rattle.std.proofs.lemmas.Bool.{cases_eq, cases_lt, cases_order, eq-eqb, ne_eqb, lt-ltb, le-ltb, cond-true, cond-false}
+use Rattle.std.proofs.lemmas.List.{get_or-set_same, get_or-set_other}
+use Rattle.std.proofs.lemmas.Bool.{cases_eq, cases_order, eq-eqb, ne_eqb}
 use Rattle.std.proofs.lemmas.Bool.Decides.{nat_tests}
 use Rattle.order.specs.Bits.{bit}
 
@@ -62,29 +62,3 @@ insert_has ws k j h =
           (or_flip (bit w (j % 64)) (eqb (j % 64) (k % 64)))
       | inr ne ↦ rw (ne_eqb (j / 64) (k / 64) ne, ne_eqb j k (λ e. ne (ap (λ n. n / 64) e)))
     ])
-
--- The list a once its elements below i took those of b in.
-abbrev pub Merging : (ℕ → ℕ → ℕ) → List ℕ → List ℕ → List ℕ → ℕ → Type 0
-Merging f ws a b i = (j : ℕ) → get_or ws j 0 ≡ cond (ltb j i) (f (get_or a j 0) (get_or b j 0)) (get_or a j 0)
-
-module _ (f : ℕ → ℕ → ℕ) (ws a b : List ℕ) (i : ℕ) (merging : Merging f ws a b i) where
-  pub merge_here : get_or ws i 0 ≡ get_or a i 0
-  merge_here = merging i ∙ cond-false (ltb i i) _ _ (le-ltb i i (omega arith))
-
-  pub merge_more : (v : ℕ) → i < length ws → v ≡ f (get_or ws i 0) (get_or b i 0) → Merging f (set ws i v) a b (i + 1)
-  merge_more v h is j =
-      rw (get_or_set ws i j v 0 h)
-      (elim (cases_order j i) [
-        | inl e ↦ rw (eq-eqb j i e, lt-ltb j (i + 1) (omega arith), e) (is ∙ ap (λ t. f t (get_or b i 0)) merge_here)
-        | inr (inl k) ↦ rw (ne_eqb j i (omega arith), lt-ltb j (i + 1) (omega arith)) (merging j ∙ cond-true (ltb j i) _ _ (lt-ltb j i k))
-        | inr (inr k) ↦ rw (ne_eqb j i (omega arith), le-ltb j (i + 1) (omega arith)) (merging j ∙ cond-false (ltb j i) _ _ (le-ltb j i (omega arith)))
-      ])
-
-  pub merge_all : f 0 0 ≡ 0 → length a ≤ i → length b ≤ i → (j : ℕ) → get_or ws j 0 ≡ f (get_or a j 0) (get_or b j 0)
-  merge_all z l k j =
-      elim (cases_lt j i) [
-        | inl s ↦ merging j ∙ cond-true (ltb j i) _ _ (lt-ltb j i s)
-        | inr g ↦
-            merging j ∙ cond-false (ltb j i) _ _ (le-ltb j i g)
-            ∙ rw (get_or_past a j 0 (omega arith), get_or_past b j 0 (omega arith)) (sym z)
-      ]

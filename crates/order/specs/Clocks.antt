@@ -6,7 +6,7 @@ use Rattle.order.specs.Meaning.{Meaning}
 use Rattle.order.specs.Runs.{Runs, runs_meaning}
 
 abbrev pub runs_of : Clocks → Runs
-runs_of o = view o.count o.ends o.runs o.clocks
+runs_of o = view o.segments.places.items
 
 abbrev pub clocks_meaning : Clocks → Meaning
 clocks_meaning o = runs_meaning (runs_of o)

@@ -1,5 +1,6 @@
 pub mod Causes
 pub mod Meaning
+pub mod Segments
 pub mod Arrows
 pub mod Histories
 pub mod Bits

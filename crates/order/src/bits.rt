@@ -2,8 +2,10 @@
 ghost use Rattle.std.specs.Prelude.{◌≡◌, ℕ, ◌<◌, false, ◌||◌, ◌==◌};
 ghost use Rattle.order.specs.Bits.{has};
 
+use std::array;
+
 // Number k is bit k % 64 of word k / 64.
-#[derive(Clone, Copy)]
+#[derive(Clone, Copy, Default)]
 pub(crate) struct Bits {
     words: [u64; 4],
 }
@@ -16,10 +18,11 @@ impl Bits {
     }
 
     pub(crate) fn contains(&self, k: u16) -> bool
-        requires { k < 256 }
         ensures { result ≡ has self.now k }
     {
-        (self.words[(k / 64) as usize] >> (k % 64)) % 2 == 1
+        self.words
+            .get((k / 64) as usize)
+            .is_some_and(|word| (word >> (k % 64)) % 2 == 1)
     }
 
     pub(crate) fn insert(&mut self, k: u16)
@@ -29,12 +32,12 @@ impl Bits {
         self.words[(k / 64) as usize] |= 1 << (k % 64);
     }
 
-    // Takes the numbers of the other set in.
-    pub(crate) fn merge(&mut self, other: &Bits)
-        ensures { (j : ℕ) → has self.new j ≡ (has self.old j || has other.now j) }
+    // The numbers that are in either set.
+    pub(crate) fn merge(&self, other: &Bits) -> Bits
+        ensures { (j : ℕ) → has result j ≡ (has self.now j || has other.now j) }
     {
-        for i in 0..4 {
-            self.words[i] |= other.words[i];
+        Bits {
+            words: array::from_fn(|i| self.words[i] | other.words[i]),
         }
     }
 }

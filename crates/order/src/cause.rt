@@ -5,18 +5,15 @@ ghost use Rattle.order.specs.Causes.{cause_number};
 #[derive(Clone, Copy, PartialEq, Eq, Debug)]
 pub enum OrderCause {
     // a segment is no open end, or is to meet itself
-    End,
+    End = 8,
     // no number is left below the ceiling
-    Ceiling,
+    Ceiling = 9,
 }
 
 impl OrderCause {
     pub fn number(&self) -> u32
         ensures { result ≡ cause_number self.now }
     {
-        match self {
-            OrderCause::End => 8,
-            OrderCause::Ceiling => 9,
-        }
+        *self as u32
     }
 }

@@ -1,16 +1,15 @@
 // The order of segments: one interface and its implementations.
 #![tactic(auto)]
 
-mod admission;
 mod bits;
 mod cause;
 mod clock;
 mod clocks;
-mod ends;
 mod history;
 mod matrix;
 mod request;
 mod segment_order;
+mod segments;
 
 pub use cause::OrderCause;
 pub use clocks::Clocks;

@@ -1,7 +1,9 @@
 // Random lists of calls, on which both implementations and a plain list of arrows agree.
 use crate::arrows::{draw_call, past};
 use order::{Call, Clocks, Matrix, OrderCause, SegmentOrder, make};
+use std::alloc::AllocError;
 use std::process::Abort;
+use std::test::Fail;
 
 fn next(state: u32) -> u32 {
     state.wrapping_mul(1664525).wrapping_add(1013904223)
@@ -20,16 +22,15 @@ fn random_call(state: u32) -> Call {
     Call::Meet(x, pick(next(state)))
 }
 
-// Makes random calls on both until the clocks are full. Answers how many arrows they drew.
+// Makes random calls on both until the clocks are full, and draws their arrows.
 fn grow(
     rt: &impl Abort,
     seed: u32,
     clocks: &mut Clocks,
     matrix: &mut Matrix,
-    arrows: &mut [(u16, u16)],
-) -> usize {
+    arrows: &mut Vec<(u16, u16)>,
+) -> Result<(), AllocError> {
     let mut state = seed;
-    let mut count = 0;
     for _ in 0..4000 {
         state = next(state);
         let call = random_call(state);
@@ -39,16 +40,16 @@ fn grow(
         }
         assert_eq!(rt; make(matrix, call), answer);
         if let Ok(n) = answer {
-            count = draw_call(arrows, count, call, n);
+            draw_call(arrows, call, n)?;
         }
     }
-    count
+    Ok(())
 }
 
 fn agree_on(rt: &impl Abort, clocks: &Clocks, matrix: &Matrix, y: u16, past: [bool; 130]) {
-    for x in 0..130 {
-        assert_eq!(rt; clocks.precedes(x, y), past[x as usize]);
-        assert_eq!(rt; matrix.precedes(x, y), past[x as usize]);
+    for (x, told) in (0..130).zip(past) {
+        assert_eq!(rt; clocks.precedes(x, y), told);
+        assert_eq!(rt; matrix.precedes(x, y), told);
     }
 }
 
@@ -59,13 +60,14 @@ fn agree(rt: &impl Abort, clocks: &Clocks, matrix: &Matrix, arrows: &[(u16, u16)
 }
 
 #[test]
-fn random_calls_agree(rt: HostRuntime) {
+fn random_calls_agree(rt: HostRuntime) -> Result<(), Fail> {
     for seed in 1..5 {
         let mut clocks = Clocks::fresh();
         let mut matrix = Matrix::fresh();
-        let mut arrows = [(0, 0); 256];
-        let count = grow(&rt, seed, &mut clocks, &mut matrix, &mut arrows);
-        assert!(rt; count > 120 && count <= 256);
-        agree(&rt, &clocks, &matrix, &arrows[..count]);
+        let mut arrows = Vec::new(rt.alloc());
+        grow(&rt, seed, &mut clocks, &mut matrix, &mut arrows)?;
+        assert!(rt; arrows.len() > 120 && arrows.len() <= 256);
+        agree(&rt, &clocks, &matrix, &arrows);
     }
+    Ok(())
 }

@@ -1,56 +1,29 @@
 // A plain list of arrows, in the order in which they were drawn.
 use order::Call;
-
-// Puts an arrow at the next place, if there is one, and answers how many there are then.
-fn draw(places: &mut [(u16, u16)], count: usize, from: u16, to: u16) -> usize {
-    if count >= places.len() {
-        return count;
-    }
-    places[count] = (from, to);
-    count + 1
-}
+use std::alloc::AllocError;
 
 // Draws the arrows of a call that answered n.
-pub(crate) fn draw_call(places: &mut [(u16, u16)], count: usize, call: Call, n: u16) -> usize {
-    match call {
-        Call::Fork(x) => {
-            let one = draw(places, count, x, n);
-            draw(places, one, x, n.wrapping_add(1))
-        }
-        Call::Meet(x, y) => {
-            let one = draw(places, count, x, n);
-            draw(places, one, y, n)
-        }
-    }
+pub(crate) fn draw_call(
+    arrows: &mut Vec<(u16, u16)>,
+    call: Call,
+    n: u16,
+) -> Result<(), AllocError> {
+    let drawn = match call {
+        Call::Fork(x) => [(x, n), (x, n.wrapping_add(1))],
+        Call::Meet(x, y) => [(x, n), (y, n)],
+    };
+    arrows.extend_from_slice(&drawn)
 }
 
-fn is_marked(marks: &[bool], x: u16) -> bool {
-    (x as usize) < marks.len() && marks[x as usize]
-}
-
-fn mark(marks: &mut [bool], x: u16) {
-    if (x as usize) < marks.len() {
-        marks[x as usize] = true;
-    }
-}
-
-// Marks what a path leads from to something marked, by walking the arrows from the last to the first.
-pub(crate) fn walk_back(arrows: &[(u16, u16)], marks: &mut [bool]) {
-    for i in (0..arrows.len()).rev() {
-        let (from, to) = arrows[i];
-        if is_marked(marks, to) {
-            mark(marks, from);
-        }
-    }
-}
-
-// What a path leads from to y.
+// What a path leads from to y, by walking the arrows from the last to the first.
 pub(crate) fn past(arrows: &[(u16, u16)], y: u16) -> [bool; 130] {
-    let mut marks = [false; 130];
-    mark(&mut marks, y);
-    walk_back(arrows, &mut marks);
-    if (y as usize) < 130 {
-        marks[y as usize] = false;
+    let mut past = [false; 130];
+    for (from, to) in arrows.iter().rev() {
+        if *to == y || past.get(*to as usize) == Some(&true) {
+            if let Some(mark) = past.get_mut(*from as usize) {
+                *mark = true;
+            }
+        }
     }
-    marks
+    past
 }

@@ -1,12 +1,29 @@
 // The calls of the clocks.
-ghost use Rattle.order.specs.Clocks.{clocks_meaning};
+ghost use Rattle.std.specs.Prelude.{◌≡◌, ℕ, ◌<◌};
 ghost use Rattle.std.proofs.Common.{rules};
+ghost use Rattle.order.specs.Clock.{seen_of};
+ghost use Rattle.order.specs.Clocks.{runs_of, clocks_meaning};
+ghost use Rattle.order.specs.Runs.{upto_clock};
 
 use super::Clocks;
-use crate::admission::admit;
 use crate::cause::OrderCause;
 use crate::clock::Clock;
 use crate::segment_order::SegmentOrder;
+use crate::segments::Segments;
+
+impl Clocks {
+    // The clock of what comes right after the segment in its run.
+    fn up_to(&self, x: u16) -> Clock
+        requires { x < (runs_of self.now).count }
+        ensures run { result.run ≡ (runs_of self.now).run x }
+        ensures seen { (q : ℕ) → seen_of result q ≡ upto_clock (runs_of self.now) x q }
+    {
+        let last = self.segments.known(x);
+        let mut clock = *last;
+        clock.step(last.run);
+        clock
+    }
+}
 
 impl SegmentOrder for Clocks {
     const CEILING: u16 = 127;
@@ -22,42 +39,34 @@ impl SegmentOrder for Clocks {
     ghost sound = { Prim.search rules };
 
     fn fresh() -> Clocks {
-        let mut ends = [false; 127];
-        ends[0] = true;
         Clocks {
-            count: 1,
-            ends,
-            runs: [0; 127],
-            clocks: [Clock::none(); 127],
+            segments: Segments::one(Clock::none()),
         }
     }
 
     // The first of the two segments goes on in x's run, and the second begins one.
     fn fork(&mut self, x: u16) -> Result<u16, OrderCause> {
-        let n = admit(self.is_end(x), self.count, 2, Self::CEILING)?;
-        let run = self.run(x);
+        let n = self.segments.admit(self.segments.is_end(x), 2)?;
         let clock = self.up_to(x);
-        self.close(x);
-        self.add(run, clock);
-        self.add((n + 1) as u8, clock);
+        self.segments.close(x);
+        self.segments.add(clock);
+        self.segments.add(clock.in_run((n + 1) as u8));
         Ok(n)
     }
 
     fn meet(&mut self, x: u16, y: u16) -> Result<u16, OrderCause> {
-        let n = admit(self.can_meet(x, y), self.count, 1, Self::CEILING)?;
-        let run = self.run(x);
-        let clock = self.up_to_both(x, y);
-        self.close(x);
-        self.add(run, clock);
+        let n = self.segments.admit(self.segments.can_meet(x, y), 1)?;
+        let clock = self.up_to(x).merge(&self.up_to(y));
+        self.segments.close(x);
+        self.segments.add(clock);
         Ok(n)
     }
 
     // y has seen more of x's run than x itself.
     fn precedes(&self, x: u16, y: u16) -> bool {
-        if x >= self.count || y >= self.count {
+        let (Some(a), Some(b)) = (self.segments.get(x), self.segments.get(y)) else {
             return false;
-        }
-        let run = self.run(x);
-        self.clocks[x as usize].of_run(run) < self.clocks[y as usize].of_run(run)
+        };
+        a.of_run(a.run) < b.of_run(a.run)
     }
 }

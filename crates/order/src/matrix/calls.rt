@@ -1,12 +1,27 @@
 // The calls of the matrix.
-ghost use Rattle.order.specs.Matrices.{matrix_meaning};
+ghost use Rattle.std.specs.Prelude.{◌≡◌, ℕ, ◌<◌};
 ghost use Rattle.std.proofs.Common.{rules};
+ghost use Rattle.order.specs.Bits.{has};
+ghost use Rattle.order.specs.Matrices.{matrix_meaning};
+ghost use Rattle.order.specs.Meaning.{upto};
 
 use super::Matrix;
-use crate::admission::admit;
 use crate::bits::Bits;
 use crate::cause::OrderCause;
 use crate::segment_order::SegmentOrder;
+use crate::segments::Segments;
+
+impl Matrix {
+    // The segment and all that precede it.
+    fn up_to(&self, x: u16) -> Bits
+        requires { x < (matrix_meaning self.now).segments }
+        ensures { (a : ℕ) → has result a ≡ upto (matrix_meaning self.now) x a }
+    {
+        let mut past = *self.segments.known(x);
+        past.insert(x);
+        past
+    }
+}
 
 impl SegmentOrder for Matrix {
     const CEILING: u16 = 256;
@@ -22,33 +37,29 @@ impl SegmentOrder for Matrix {
     ghost sound = { Prim.search rules };
 
     fn fresh() -> Matrix {
-        let mut ends = [false; 256];
-        ends[0] = true;
         Matrix {
-            count: 1,
-            ends,
-            pasts: [Bits::none(); 256],
+            segments: Segments::one(Bits::none()),
         }
     }
 
     fn fork(&mut self, x: u16) -> Result<u16, OrderCause> {
-        let n = admit(self.is_end(x), self.count, 2, Self::CEILING)?;
+        let n = self.segments.admit(self.segments.is_end(x), 2)?;
         let past = self.up_to(x);
-        self.close(x);
-        self.add(past);
-        self.add(past);
+        self.segments.close(x);
+        self.segments.add(past);
+        self.segments.add(past);
         Ok(n)
     }
 
     fn meet(&mut self, x: u16, y: u16) -> Result<u16, OrderCause> {
-        let n = admit(self.can_meet(x, y), self.count, 1, Self::CEILING)?;
-        let past = self.up_to_both(x, y);
-        self.close(x);
-        self.add(past);
+        let n = self.segments.admit(self.segments.can_meet(x, y), 1)?;
+        let past = self.up_to(x).merge(&self.up_to(y));
+        self.segments.close(x);
+        self.segments.add(past);
         Ok(n)
     }
 
     fn precedes(&self, x: u16, y: u16) -> bool {
-        x < self.count && y < self.count && self.pasts[y as usize].contains(x)
+        self.segments.get(y).is_some_and(|past| past.contains(x))
     }
 }

@@ -1,23 +1,33 @@
-use Rattle.std.proofs.Common.{◌≡◌, Ok, Err, sym, ◌∙◌}
-use Rattle.std.proofs.lemmas.Result.{err_from_is_err_and}
-use Rattle.order.specs.Matrices.{matrix_meaning}
+use Rattle.std.proofs.Common.{◌≡◌, Ok, Err}
 use Rattle.order.specs.Bits.{has}
+use Rattle.order.specs.Matrices.{matrix_meaning}
 use Rattle.order.specs.Meaning.{fork_answer, forked}
-use Rattle.order.proofs.Calls.{stays, grows, forks}
+use Rattle.order.proofs.Calls.{stays, forks}
+use Rattle.order.proofs.Matrices.{closes, opens, fork_done}
 use Rattle.order.proofs.matrix.calls.MatrixSegmentOrder.fork.Goals as goal
 
-pub returns-in_err-n : goal.returns-in_err-n
-returns-in_err-n c =
+pub returns-in_err-n-clause-means : goal.returns-in_err-n-clause-means
+returns-in_err-n-clause-means c =
     let m = matrix_meaning c.args.self.now in
-    let p = err_from_is_err_and c.from_residual.result c.from_residual.ensures.1 in
     let a : fork_answer 256 m c.args.x ≡ Err c.in_err-n.field-0.0 = cc c.in_err-n.was in
-    record { answers = cc (p.1, p.2); means = stays _ _ (forked m c.args.x) m a }
+    stays _ _ (forked m c.args.x) m a
 
-pub returns : goal.returns
-returns c =
+pub invariant_of-self : goal.invariant_of-self
+invariant_of-self c =
     let m = matrix_meaning c.args.self.now in
-    let a : fork_answer 256 m c.args.x ≡ Ok c.in_ok-n.n = cc c.in_ok-n.was in
-    let past = has c.up_to-past.result in
-    let f = forks m _ _ _ c.args.x past past c.close.ensures c.add.ensures c.add-2.ensures
-    c.up_to-past.ensures c.up_to-past.ensures in
-    record { answers = sym a; means = f ∙ grows _ _ (forked m c.args.x) m a }
+    let x = c.args.x in
+    let p = has c.up_to-past.result in
+    let a : fork_answer 256 m x ≡ Ok c.in_ok-n.n = cc c.in_ok-n.was in
+    let f = forks m _ _ _ x p p (closes _ _ x c.close.ensures.ends c.close.ensures.known) (opens _ _ _ c.add.ensures.ends c.add.ensures.known)
+    (opens _ _ _ c.add-2.ensures.ends c.add-2.ensures.known) c.up_to-past.ensures c.up_to-past.ensures in
+    record { earlier = (fork_done c.args.self.now x _ _ a f).0 }
+
+pub returns-clause-means : goal.returns-clause-means
+returns-clause-means c =
+    let m = matrix_meaning c.args.self.now in
+    let x = c.args.x in
+    let p = has c.up_to-past.result in
+    let a : fork_answer 256 m x ≡ Ok c.in_ok-n.n = cc c.in_ok-n.was in
+    let f = forks m _ _ _ x p p (closes _ _ x c.close.ensures.ends c.close.ensures.known) (opens _ _ _ c.add.ensures.ends c.add.ensures.known)
+    (opens _ _ _ c.add-2.ensures.ends c.add-2.ensures.known) c.up_to-past.ensures c.up_to-past.ensures in
+    (fork_done c.args.self.now x _ c.add-2.new.self.places.items a f).1

@@ -1,43 +1,29 @@
-use Rattle.std.proofs.Common.{◌≡◌, ◌+◌, ◌≤◌, Ok, Err, sym, ap, ◌∙◌, inl, inr, arith}
-use Rattle.std.proofs.lemmas.Result.{err_from_is_err_and}
-use Rattle.std.proofs.lemmas.Bool.{or_cases}
-use Rattle.order.specs.Matrices.{matrix_meaning}
+use Rattle.std.proofs.Common.{◌≡◌, ℕ, ◌||◌, Ok, ◌∙◌}
 use Rattle.order.specs.Bits.{has}
-use Rattle.order.specs.Meaning.{meet_answer, met, upto}
-use Rattle.order.proofs.Calls.{stays, grows, meets, meet_admits}
-use Rattle.order.proofs.Growing.{upto_within}
-use Rattle.order.proofs.Matrices.{matrix_sound}
+use Rattle.order.specs.Matrices.{matrix_meaning}
+use Rattle.order.specs.Meaning.{meet_answer, upto}
+use Rattle.order.proofs.Calls.{meets}
+use Rattle.order.proofs.Matrices.{closes, opens, meet_done}
 use Rattle.order.proofs.matrix.calls.MatrixSegmentOrder.meet.Goals as goal
 
-pub returns-in_err-n : goal.returns-in_err-n
-returns-in_err-n c =
+pub invariant_of-self : goal.invariant_of-self
+invariant_of-self c =
     let m = matrix_meaning c.args.self.now in
-    let p = err_from_is_err_and c.from_residual.result c.from_residual.ensures.1 in
-    let a : meet_answer 256 m c.args.x c.args.y ≡ Err c.in_err-n.field-0.0 = cc c.in_err-n.was in
-    record { answers = cc (p.1, p.2); means = stays _ _ (met m c.args.x c.args.y) m a }
-
-pub add-requires : goal.add-requires
-add-requires c =
-    let was = c.args.self.now in
-    let m = matrix_meaning was in
     let x = c.args.x in
     let y = c.args.y in
     let a : meet_answer 256 m x y ≡ Ok c.in_ok-n.n = cc c.in_ok-n.was in
-    let fit = meet_admits 256 m x y _ a in
-    let same : c.close.new.self.count ≡ was.count = ap (λ k. k.segments) c.close.ensures in
-    let room : was.count + 1 ≤ 256 = fit.0 in (
-      omega arith,
-      λ j h. rw same (elim (or_cases (upto m x j) (upto m y j) (sym (c.up_to_both-past.ensures j) ∙ h)) [
-        | inl u ↦ upto_within (matrix_sound was) x j ((matrix_sound was).stands x fit.1) u
-        | inr u ↦ upto_within (matrix_sound was) y j ((matrix_sound was).stands y fit.2) u
-      ]),
-    )
+    let both : (a : ℕ) → has c.merge-past.result a ≡ (upto m x a || upto m y a) =
+    λ a. c.merge-past.ensures a ∙ (λ i. c.up_to.ensures a i || c.up_to-2.ensures a i) in
+    let f = meets m _ _ x y _ (closes _ _ x c.close.ensures.ends c.close.ensures.known) (opens _ _ _ c.add.ensures.ends c.add.ensures.known) both in
+    record { earlier = (meet_done c.args.self.now x y _ _ a f).0 }
 
-pub returns : goal.returns
-returns c =
+pub returns-clause-means : goal.returns-clause-means
+returns-clause-means c =
     let m = matrix_meaning c.args.self.now in
-    let a : meet_answer 256 m c.args.x c.args.y ≡ Ok c.in_ok-n.n = cc c.in_ok-n.was in
     let x = c.args.x in
     let y = c.args.y in
-    let f = meets m _ _ x y (has c.up_to_both-past.result) c.close.ensures c.add.ensures c.up_to_both-past.ensures in
-    record { answers = sym a; means = f ∙ grows _ _ (met m x y) m a }
+    let a : meet_answer 256 m x y ≡ Ok c.in_ok-n.n = cc c.in_ok-n.was in
+    let both : (a : ℕ) → has c.merge-past.result a ≡ (upto m x a || upto m y a) =
+    λ a. c.merge-past.ensures a ∙ (λ i. c.up_to.ensures a i || c.up_to-2.ensures a i) in
+    let f = meets m _ _ x y _ (closes _ _ x c.close.ensures.ends c.close.ensures.known) (opens _ _ _ c.add.ensures.ends c.add.ensures.known) both in
+    (meet_done c.args.self.now x y _ c.add.new.self.places.items a f).1
