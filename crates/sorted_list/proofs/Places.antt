@@ -1,8 +1,8 @@
 -- What the walk, the shift and the blanking make of the places.
-use Rattle.std.proofs.Common.{◌≡◌, ℕ, suc, ◌+◌, ◌-◌, ◌<◌, ◌≤◌, Bool, cond, eqb, List, [], ◌∷◌, ◌++◌, length, get_or, take, drop, set, replicate, Some, None, Option, Ordering, sym, ap, ◌∙◌, append_assoc, arith, Bor, MatchOption}
+use Rattle.std.proofs.Common.{◌≡◌, ℕ, suc, ◌+◌, ◌-◌, ◌<◌, ◌≤◌, Bool, cond, eqb, List, [], ◌∷◌, ◌++◌, length, get_or, take, drop, set, replicate, Some, None, Option, Ordering, sym, refl, ap, subst, ◌∙◌, append_assoc, arith, Bor, MatchOption}
 use Rattle.std.specs.Option.{option_map}
 use Rattle.std.specs.Ordering.{is_lt}
-use Rattle.std.specs.List.{insert, HoldsAt, slice_get}
+use Rattle.std.specs.List.{insert, HoldsAt, slice_get, FoldsTo}
 use Rattle.std.proofs.lemmas.List.Edits.{get_or-insert_below, length-insert}
 use Rattle.std.proofs.lemmas.List.{take_more, take-take, take_at, drop_more, drop_all, drop_at, drop-drop, take-append-drop, set_at, length-take-le, length-drop, length-replicate, replicate_more, get_or_append_left}
 use Rattle.std.proofs.lemmas.Option.{slice_get-get_or, slice_get_past}
@@ -38,14 +38,14 @@ module _ {X : Type 0} where
       by [] e = eq-eqb n (length m) (omega arith)
       by (y ∷ ys) e = ne_eqb n (length m) (λ q. omega arith)
 
-  -- one more place is blank
-  pub blank_more : (xs : List X) (i : ℕ) (y : X) → i < length xs
-      → set (replicate i y ++ drop i xs) i y ≡ replicate (i + 1) y ++ drop (i + 1) xs
-  blank_more xs i y h =
-      ap (λ l. set (replicate i y ++ l) i y) (drop_more xs i y h)
-      ∙ set_at (replicate i y) (get_or xs i y) (drop (i + 1) xs) y i (length-replicate i y)
-      ∙ sym (append_assoc (replicate i y) (y ∷ []) (drop (i + 1) xs))
-      ∙ ap (λ l. l ++ drop (i + 1) xs) (replicate_more i y)
+  -- where each call gives x and leaves the closure as it was, all that it gave are x
+  pub filled_same : {F : Type 0} (R : F → X → F → Type 0) (f : F) (x : X) → ((y : X) (q : F) → R f y q → (y ≡ x) × (q ≡ f))
+      → (xs : List X) (q : F) → FoldsTo R f xs q → xs ≡ replicate (length xs) x
+  filled_same R f x one [] q h = refl
+  filled_same R f x one (y ∷ xs) q h =
+      let t = one y h.0 h.1 in
+      let rest = filled_same R f x one xs q (subst (λ k. FoldsTo R k xs q) t.1 h.2) in
+      ap (λ z. z ∷ xs) t.0 ∙ ap (λ l. x ∷ l) rest
 
   -- ---- the memory while records move: those from i on stand one place on, and some x is left at i
 

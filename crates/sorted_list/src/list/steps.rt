@@ -18,9 +18,9 @@ impl<R: Record> SortedList<'_, R> {
         ensures places { self.new.places.now ≡ replicate (length self.old.places.now) R.vacant }
         ensures lent { self.new.places.ghost_name ≡ self.old.places.ghost_name }
     {
-        for i in 0..self.capacity() {
-            self.places[i] = R::blank();
-        }
+        let blank = R::blank();
+        let places = &mut *self.places;
+        places.fill_with(|| blank);
     }
 
     // Puts the record at the place, and the records from there on one place on.
