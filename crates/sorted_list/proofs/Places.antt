@@ -1,28 +1,17 @@
 -- What the walk, the shift and the blanking make of the places.
-use Rattle.std.proofs.Common.{◌≡◌, ℕ, suc, ◌+◌, ◌-◌, ◌<◌, ◌≤◌, Bool, cond, eqb, List, [], ◌∷◌, ◌++◌, length, get_or, take, drop, set, replicate, Some, None, Option, Ordering, sym, refl, ap, subst, ◌∙◌, append_assoc, arith, Bor, MatchOption}
+use Rattle.std.proofs.Common.{◌≡◌, ℕ, ◌+◌, ◌-◌, ◌<◌, ◌≤◌, eqb, List, [], ◌∷◌, ◌++◌, length, get_or, take, drop, set, replicate, Some, None, Option, sym, refl, ap, subst, ◌∙◌, append_assoc, arith, Bor, MatchOption}
 use Rattle.std.specs.Option.{option_map}
-use Rattle.std.specs.Ordering.{is_lt}
 use Rattle.std.specs.List.{insert, HoldsAt, slice_get, FoldsTo, copy_within}
 use Rattle.std.proofs.lemmas.List.Edits.{length-insert}
-use Rattle.std.proofs.lemmas.List.{take_more, take-take, drop-take, take_at, drop_more, drop_at, drop-drop, set_at, length-take-le, length-drop}
+use Rattle.std.proofs.lemmas.List.{take_more, take-take, drop-take, take_at, drop_at, drop-drop, set_at, length-take-le, length-drop}
 use Rattle.std.proofs.lemmas.Option.{slice_get-get_or, slice_get_past}
 use Rattle.std.proofs.lemmas.Bool.{eq-eqb, ne_eqb}
-use Rattle.sorted_list.specs.Lists.{Held, memory, cut, none, entered, place_for}
+use Rattle.sorted_list.specs.Lists.{Held, memory, cut, none, entered}
 
 module _ {X : Type 0} where
   both : {xs ys zs ws : List X} → xs ≡ ys → zs ≡ ws
       → ◌≡◌ {A = Held X} (record { records = xs; free = zs }) (record { records = ys; free = ws })
   both p q = cc
-
-  -- the record read at i begins what is left from i on
-  pub drop_read : (xs : List X) (i : ℕ) (x : X) → i < length xs → x ≡ get_or xs i x → drop i xs ≡ x ∷ drop (i + 1) xs
-  drop_read xs i x h read = drop_more xs i x h ∙ ap (λ y. y ∷ drop (i + 1) xs) (sym read)
-
-  -- the place among records that begin with x
-  pub place_step : (rank : X → X → Ordering) (xs ys : List X) (x r : X) (b : Bool)
-      → xs ≡ x ∷ ys → b ≡ is_lt (rank x r) → place_for rank xs r ≡ cond b (suc (place_for rank ys r)) 0
-  place_step rank xs ys x r b begins e =
-      ap (λ l. place_for rank l r) begins ∙ ap (λ t. cond t (suc (place_for rank ys r)) 0) (sym e)
 
   -- what `get` lends is the record at the place
   pub nth_item : (xs : List X) (i : ℕ) (o : Option (Bor X))
@@ -58,16 +47,8 @@ module _ {X : Type 0} where
       let back : drop i (take n m) ≡ moved = ap (λ k. drop i (take k m)) (sym e) ∙ drop-take i (n - i) m in
       let f : i + 1 + (n - i) ≡ n + 1 = omega arith in
       let behind : drop 1 (drop n m) ≡ rest = drop-drop 1 n m ∙ ap (λ k. drop k m) (sym f) in
-      ap (λ l. set (l ++ moved ++ rest) i x) (take_more m i x (omega arith))
-      ∙ ap (λ l. set (l ++ rest) i x) (append_assoc (take i m) (get_or m i x ∷ []) moved)
-      ∙ ap (λ l. set l i x) (append_assoc (take i m) (get_or m i x ∷ moved) rest)
-      ∙ set_at (take i m) (get_or m i x) (moved ++ rest) x i (length-take-le i m (omega arith))
-      ∙ sym (append_assoc (take i m) (x ∷ moved) rest)
-      ∙ sym (
-      ap (λ l. (l ++ x ∷ drop i (take n m)) ++ drop 1 (drop n m)) fore
-      ∙ ap (λ l. (take i m ++ x ∷ l) ++ drop 1 (drop n m)) back
-      ∙ ap (λ l. (take i m ++ x ∷ moved) ++ l) behind
-      )
+      rw (fore, back, behind, take_more m i x (omega arith))
+      (simp append_assoc (set_at (take i m) (get_or m i x) (moved ++ rest) x i (length-take-le i m (omega arith))))
 
   pub put_held : (l m : List X) (n i : ℕ) (x : X) → l ≡ copy_within m i n (i + 1) → i ≤ length (take n m) → n < length m
       → cut (set l i x) (n + 1) ≡ entered (cut m n) i x

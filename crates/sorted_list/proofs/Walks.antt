@@ -1,15 +1,17 @@
 -- What the walk past the smaller records finds.
-use Rattle.std.proofs.Common.{◌≡◌, ℕ, zero, suc, ◌<◌, ◌≤◌, Bool, true, false, cond, List, [], ◌∷◌, length, get_or, drop, Ordering, Less, Equal, Greater, Ok, Err, Result, IfOk, IfErr, sym, refl, ap, ◌∙◌, subst, true≢false, ⊎_elim, arith}
+use Rattle.std.proofs.Common.{◌≡◌, ℕ, zero, suc, ◌+◌, ◌<◌, ◌≤◌, Bool, true, false, cond, List, [], ◌∷◌, length, get_or, take, drop, set, Ordering, Less, Equal, Greater, Ok, Err, Result, IfOk, IfErr, sym, refl, ap, ◌∙◌, subst, true≢false, arith}
 use mathlib.Core.List.Memᴰ
 use Rattle.std.specs.Ordering.{is_lt, is_eq, ordering_index}
-use Rattle.std.specs.List.{insert, AllWithin}
+use Rattle.std.specs.List.{insert, AllWithin, copy_within}
 use Rattle.std.specs.List.Sorted.{IsNonDecreasingBy, IsSearchInRange, IsBinarySearchResult}
-use Rattle.std.proofs.lemmas.Bool.{cases_eq}
-use Rattle.std.proofs.ByRecursion.{All-weaker}
+use Rattle.std.proofs.lemmas.List.Sorted.{searchable_from_sorted}
+use Rattle.std.proofs.ByRecursion.{All-weaker, All-take}
+use Rattle.std.proofs.lemmas.List.{take-take}
+use Rattle.sorted_list.proofs.Places.{put_held}
 use Rattle.sorted_list.specs.Orders.{TotalOrder}
 use Rattle.sorted_list.specs.Lists.{place_for, first_equals, present, IsPlaceFor}
 use Rattle.sorted_list.specs.Laws.{Ascending, HasEqual, Finds}
-use Rattle.sorted_list.proofs.Orders.{not_equal, not_greater, equal_not_greater, flipped, before_equal}
+use Rattle.sorted_list.proofs.Orders.{library_order, not_equal, not_greater, equal_not_greater, flipped, before_equal}
 use Rattle.sorted_list.proofs.Members.{all_member, all_inserted, ascending_at}
 
 module _ {X : Type 0} (rank : X → X → Ordering) where
@@ -69,27 +71,10 @@ module _ {X : Type 0} (rank : X → X → Ordering) where
 
     -- what a binary search finds: a record that is equal to r, or r's place
 
-    rising : {x y : X} (r : X) → rank x y ≡ Less → ordering_index (rank x r) ≤ ordering_index (rank y r)
-    rising {x} {y} r less = by (rank y r) refl
-      where
-        low : (a : Ordering) → rank x r ≡ Less → ordering_index (rank x r) ≤ ordering_index a
-        low a e = let z = ap ordering_index e in omega arith
-
-        by : (a : Ordering) → rank y r ≡ a → ordering_index (rank x r) ≤ ordering_index a
-        by Less e = low Less (o.trans x y r less e)
-        by Equal e = low Equal (before_equal o less e)
-        by Greater e = most (rank x r)
-          where
-            most : (a : Ordering) → ordering_index a ≤ 2
-            most Less = omega arith
-            most Equal = omega arith
-            most Greater = omega arith
-
     rises : (xs : List X) (r : X) → Ascending rank xs → IsNonDecreasingBy (λ x. ordering_index (rank x r)) xs
-    rises xs r up i j d le within =
-        ⊎_elim (λ e. let z = ap (λ k. ordering_index (rank (get_or xs k d) r)) e in omega arith)
-        (λ ne. rising r (ascending_at o xs i j d up (omega arith) within))
-        (cases_eq i j)
+    rises xs r up =
+        searchable_from_sorted (library_order o) (λ x. x) xs r
+        (λ k d low high. ap is_lt (flipped o (ascending_at o xs k (k + 1) d up (omega arith) high)))
 
     parted : (xs : List X) (r : X) (i : ℕ) → i ≤ length xs → AllWithin (λ x. rank x r ≡ Less) xs 0 i
         → AllWithin (λ x. rank x r ≡ Greater) xs i (length xs) → IsPlaceFor rank xs r i
@@ -123,3 +108,18 @@ module _ {X : Type 0} (rank : X → X → Ordering) where
     searched xs r (Err i) up within h =
         let t = h (rises xs r up) in
         record { present = tt; absent = parted xs r i within t.0 t.1 }
+
+    front_ascends : (xs : List X) (k : ℕ) → Ascending rank xs → Ascending rank (take k xs)
+    front_ascends [] zero up = tt
+    front_ascends [] (suc k) up = tt
+    front_ascends (x ∷ xs) zero up = tt
+    front_ascends (x ∷ xs) (suc k) up = (All-take (λ y. rank x y ≡ Less) k xs up.0, front_ascends xs k up.1)
+
+    -- the first k of the records once r is put in ascend, and so do all of them
+    pub put_ascends : (l m : List X) (n i : ℕ) (r : X) → l ≡ copy_within m i n (i + 1) → Ascending rank (take n m)
+        → IsPlaceFor rank (take n m) r i → n < length m → (k : ℕ) → k ≤ n + 1 → Ascending rank (take k (set l i r))
+    put_ascends l m n i r after up at room k below =
+        let put = put_held l m n i r after at.within room in
+        let whole = subst (λ j. Ascending rank (insert (take n m) j r)) (sym at.place) (inserted_ascends (take n m) r up at.absent) in
+        let all = subst (Ascending rank) (sym (ap (λ h. h.records) put)) whole in
+        subst (Ascending rank) (take-take k (n + 1) (set l i r) below) (front_ascends (take (n + 1) (set l i r)) k all)

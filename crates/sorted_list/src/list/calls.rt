@@ -4,9 +4,9 @@ ghost use Rattle.std.specs.List.{slice_get};
 ghost use Rattle.sorted_list.specs.Lists.{held, opened, present, added, answer};
 
 use super::SortedList;
+use super::steps::blank_all;
 use crate::cause::ListCause;
 use crate::record::Record;
-use crate::records::blank_all;
 
 impl<'a, R: Record> SortedList<'a, R> {
     // An empty list over the places, each of which is blanked.

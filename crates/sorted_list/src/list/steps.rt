@@ -1,5 +1,5 @@
 // The steps of the list's calls.
-ghost use Rattle.std.specs.Prelude.{◌≡◌, ◌<◌, length, true, IfOk, IfErr, ◌==◌};
+ghost use Rattle.std.specs.Prelude.{◌≡◌, ◌<◌, length, replicate, true, IfOk, IfErr, ◌==◌};
 ghost use Rattle.sorted_list.specs.Lists.{held, none, present, IsPlaceFor, entered};
 
 use super::SortedList;
@@ -7,6 +7,7 @@ use crate::record::Record;
 
 impl<R: Record> SortedList<'_, R> {
     // Whether no place is free.
+    #[tactic(auto, using(crate::proofs::Places::none_free))]
     pub(super) fn is_full(&self) -> bool
         ensures free { result ≡ none (held self.now).free }
         ensures count { result ≡ (self.now.count == length self.now.places.now) }
@@ -23,6 +24,7 @@ impl<R: Record> SortedList<'_, R> {
     }
 
     // Puts an absent record at its place, and the records from there on one place on.
+    #[tactic(auto, using(crate::proofs::Places::put_held))]
     pub(super) fn insert(&mut self, place: usize, new: R)
         requires room { self.old.count < length self.old.places.now }
         requires place { IsPlaceFor R.rank (held self.old).records new place }
@@ -34,4 +36,12 @@ impl<R: Record> SortedList<'_, R> {
         places[place] = new;
         self.count += 1;
     }
+}
+
+// Blanks every record.
+pub(super) fn blank_all<R: Record>(records: &mut [R])
+    ensures { records.new ≡ replicate (length records.old) R.vacant }
+{
+    let blank = R::blank();
+    records.fill_with(|| blank);
 }

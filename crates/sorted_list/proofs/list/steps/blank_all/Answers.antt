@@ -1,6 +1,6 @@
 use Rattle.std.proofs.Common.{replicate, ap, ◌∙◌, rules}
 use Rattle.sorted_list.proofs.Places.{filled_same}
-use Rattle.sorted_list.proofs.records.blank_all.Goals as goal
+use Rattle.sorted_list.proofs.list.steps.blank_all.Goals as goal
 
 pub returns : goal.returns
 returns g c =
