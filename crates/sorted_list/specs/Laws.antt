@@ -1,16 +1,12 @@
 -- The laws of adding, over any total order of the records. `Memᴰ x xs` says that x is one of xs.
 -- Assumes nothing.
 use Rattle.std.specs.Prelude.{◌≡◌, ℕ, ◌+◌, ◌<◌, false, cond, ◌⊎◌, List, [], ◌∷◌, length, Decides, ◌≢◌, slice_index_or}
-use Rattle.std.specs.declared.cmp.Ordering.TheVariants.{Less, Equal}
+use Rattle.std.specs.declared.cmp.Ordering.TheVariants.{Equal}
 use Rattle.std.specs.declared.cmp.Ordering.{Ordering}
 use mathlib.Core.List.{Memᴰ}
 use Rattle.std.specs.List.{AllByRecursion}
+pub use Rattle.sorted_list.specs.Orders.{Ascending}
 use Rattle.sorted_list.specs.Lists.{Held, opened, present, added, refused}
-
--- Each record comes before all that stand behind it.
-abbrev pub Ascending : {X : Type 0} → (X → X → Ordering) → List X → Type 0
-Ascending rank [] = Unit {0}
-Ascending rank (x ∷ xs) = AllByRecursion (λ y. rank x y ≡ Less) xs × Ascending rank xs
 
 -- No record stands at two places.
 abbrev pub Once : {X : Type 0} → List X → Type 0

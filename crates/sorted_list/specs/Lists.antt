@@ -1,6 +1,6 @@
 -- What a sorted list holds, and what each call makes of it. Stated for every list, also one that does not ascend.
 -- Assumes nothing.
-use Rattle.std.specs.Prelude.{ℕ, suc, Bool, true, false, cond, not, ◌&&◌, ◌||◌, List, [], ◌∷◌, ◌++◌, take, drop, replicate, Ok, Err, Result}
+use Rattle.std.specs.Prelude.{◌≡◌, ℕ, suc, ◌≤◌, Bool, true, false, cond, not, ◌&&◌, ◌||◌, List, [], ◌∷◌, ◌++◌, take, drop, replicate, length, Ok, Err, Result}
 use Rattle.std.specs.declared.cmp.Ordering.{Ordering}
 use Rattle.std.specs.Ordering.{is_lt, is_eq}
 use Rattle.std.specs.List.{insert}
@@ -20,7 +20,7 @@ memory h = h.records ++ h.free
 abbrev pub cut : {X : Type 0} → List X → ℕ → Held X
 cut places n = record { records = take n places; free = drop n places }
 
-abbrev pub held : {X : Type 0} → SortedList X → Held X
+abbrev pub held : {X : Type 0} {r : _} → SortedList X r → Held X
 held l = cut l.places.now l.count
 
 -- No record, and the blank one at each of n places.
@@ -40,6 +40,12 @@ first_equals rank (x ∷ xs) r = is_eq (rank x r)
 -- Whether a record that is equal to r in the order stands at r's place.
 abbrev pub present : {X : Type 0} → (X → X → Ordering) → List X → X → Bool
 present rank xs r = first_equals rank (drop (place_for rank xs r) xs) r
+
+-- The place for r is i, and no record that is equal to r in the order stands there.
+pub record IsPlaceFor {X : Type 0} (rank : X → X → Ordering) (xs : List X) (r : X) (i : ℕ) : Type 0 where
+  pub within : i ≤ length xs
+  pub place : i ≡ place_for rank xs r
+  pub absent : present rank xs r ≡ false
 
 abbrev pub none : {X : Type 0} → List X → Bool
 none [] = true

@@ -5,15 +5,13 @@ ghost use Rattle.sorted_list.specs.Causes.{cause_number};
 #[derive(Clone, Copy, PartialEq, Eq, Debug)]
 pub enum ListCause {
     // every place holds a record already
-    Full,
+    Full = 11,
 }
 
 impl ListCause {
     pub fn number(&self) -> u32
         ensures { result ≡ cause_number self.now }
     {
-        match self {
-            ListCause::Full => 11,
-        }
+        *self as u32
     }
 }

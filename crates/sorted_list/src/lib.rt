@@ -5,7 +5,6 @@ mod cause;
 mod laws;
 mod list;
 mod record;
-mod records;
 
 pub use cause::ListCause;
 pub use laws::{

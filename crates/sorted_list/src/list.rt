@@ -1,13 +1,17 @@
 // A sorted list over lent memory.
-ghost use Rattle.std.specs.Prelude.{◌≤◌, length};
+ghost use Rattle.std.specs.Prelude.{◌≤◌, length, take};
+ghost use Rattle.sorted_list.specs.Orders.{Ascending, ascending_once};
+
+use crate::record::Record;
 
 mod calls;
 mod steps;
 
 // The first `count` places hold the records, the later ones are free.
 #[derive(Drop)]
-pub struct SortedList<'a, R> {
+pub struct SortedList<'a, R: Record> {
     places: &'a mut [R],
     count: usize,
     ghost within: { count ≤ length places.now },
+    ghost ascends: { Ascending R.rank (take count places.now) } by { ascending_once R.rank (take count places.now) },
 }

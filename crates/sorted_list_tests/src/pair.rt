@@ -5,7 +5,7 @@ ghost use Rattle.std.proofs.Common.{rules};
 use sorted_list::{Record, WholeKey};
 use std::cmp::Ordering;
 
-#[derive(Clone, Copy, PartialEq, Eq, Debug)]
+#[derive(Clone, Copy, PartialEq, Eq, PartialOrd, Ord, Debug)]
 pub struct Pair {
     pub left: u32,
     pub right: u32,
@@ -19,9 +19,7 @@ impl Record for Pair {
     ghost order = { Prim.search rules };
 
     fn compare(&self, other: &Pair) -> Ordering {
-        self.left
-            .cmp(&other.left)
-            .then(self.right.cmp(&other.right))
+        self.cmp(other)
     }
 
     fn blank() -> Pair {

@@ -4,9 +4,9 @@ ghost use Rattle.std.specs.List.{slice_get};
 ghost use Rattle.sorted_list.specs.Lists.{held, opened, present, added, answer};
 
 use super::SortedList;
+use super::steps::blank_all;
 use crate::cause::ListCause;
 use crate::record::Record;
-use crate::records::{place_of, record_at, stands_at};
 
 impl<'a, R: Record> SortedList<'a, R> {
     // An empty list over the places, each of which is blanked.
@@ -44,15 +44,14 @@ impl<'a, R: Record> SortedList<'a, R> {
     pub fn at(&self, place: usize) -> Option<R>
         ensures { result ≡ slice_get (held self.now).records place }
     {
-        record_at(self.records(), place)
+        self.records().get(place).copied()
     }
 
     // Whether the list holds a record that is equal to the sought one in the order.
     pub fn contains(&self, sought: &R) -> bool
         ensures { result ≡ present R.rank (held self.now).records sought.now }
     {
-        let records = self.records();
-        stands_at(records, place_of(records, sought), sought)
+        self.place_of(sought).is_ok()
     }
 
     // Puts an absent record at its place. A present one alters nothing, and neither does one that is refused.
@@ -61,15 +60,14 @@ impl<'a, R: Record> SortedList<'a, R> {
         ensures holds { held self.new ≡ added R.rank (held self.old) new }
         ensures lent { self.new.places.ghost_name ≡ self.old.places.ghost_name }
     {
-        let place = place_of(self.records(), &new);
-        if stands_at(self.records(), place, &new) {
-            return Ok(());
+        match self.place_of(&new) {
+            Ok(_) => Ok(()),
+            Err(_) if self.is_full() => Err(ListCause::Full),
+            Err(place) => {
+                self.insert(place, new);
+                Ok(())
+            }
         }
-        if self.is_full() {
-            return Err(ListCause::Full);
-        }
-        self.insert(place, new);
-        Ok(())
     }
 
     // Blanks every place, and holds no record again.
@@ -77,7 +75,8 @@ impl<'a, R: Record> SortedList<'a, R> {
         ensures holds { held self.new ≡ opened R.vacant (length self.old.places.now) }
         ensures lent { self.new.places.ghost_name ≡ self.old.places.ghost_name }
     {
-        self.blank_all();
         self.count = 0;
+        let places = &mut *self.places;
+        blank_all(places);
     }
 }

@@ -1,12 +1,13 @@
 // The steps of the list's calls.
-ghost use Rattle.std.specs.Prelude.{◌≡◌, ◌+◌, ◌<◌, ◌≤◌, length, replicate, ◌==◌};
-ghost use Rattle.sorted_list.specs.Lists.{held, memory, none, entered};
+ghost use Rattle.std.specs.Prelude.{◌≡◌, ◌<◌, length, replicate, true, IfOk, IfErr, ◌==◌};
+ghost use Rattle.sorted_list.specs.Lists.{held, none, present, IsPlaceFor, entered};
 
 use super::SortedList;
 use crate::record::Record;
 
 impl<R: Record> SortedList<'_, R> {
     // Whether no place is free.
+    #[tactic(auto, using(crate::proofs::Places::none_free))]
     pub(super) fn is_full(&self) -> bool
         ensures free { result ≡ none (held self.now).free }
         ensures count { result ≡ (self.now.count == length self.now.places.now) }
@@ -14,45 +15,33 @@ impl<R: Record> SortedList<'_, R> {
         self.count == self.capacity()
     }
 
-    pub(super) fn blank_all(&mut self)
-        ensures places { self.new.places.now ≡ replicate (length self.old.places.now) R.vacant }
-        ensures lent { self.new.places.ghost_name ≡ self.old.places.ghost_name }
+    // Where a record that is equal to the sought one in the order stands, or the place for one.
+    pub(super) fn place_of(&self, sought: &R) -> Result<usize, usize>
+        ensures present { IfOk result (λ _. present R.rank (held self.now).records sought.now ≡ true) }
+        ensures absent { IfErr result (IsPlaceFor R.rank (held self.now).records sought.now) }
     {
-        for i in 0..self.capacity() {
-            self.places[i] = R::blank();
-        }
+        self.records().binary_search_by(|r| r.compare(sought))
     }
 
-    // Puts the record at the place, and the records from there on one place on.
+    // Puts an absent record at its place, and the records from there on one place on.
+    #[tactic(auto, using(crate::proofs::Places::put_held))]
     pub(super) fn insert(&mut self, place: usize, new: R)
-        requires { (place ≤ self.old.count) × (self.old.count < length self.old.places.now) }
+        requires room { self.old.count < length self.old.places.now }
+        requires place { IsPlaceFor R.rank (held self.old).records new place }
         ensures holds { held self.new ≡ entered (held self.old) place new }
         ensures lent { self.new.places.ghost_name ≡ self.old.places.ghost_name }
     {
-        self.shift(place);
-        self.places[place] = new;
-        self.raise_count();
-    }
-
-    // Moves the records from the place on by one place. Some record is left at the place.
-    fn shift(&mut self, place: usize)
-        requires { (place ≤ self.old.count) × (self.old.count < length self.old.places.now) }
-        ensures places { (x : R) × (self.new.places.now ≡ memory (entered (held self.old) place x)) }
-        ensures size { length self.new.places.now ≡ length self.old.places.now }
-        ensures count { self.new.count ≡ self.old.count }
-        ensures lent { self.new.places.ghost_name ≡ self.old.places.ghost_name }
-    {
-        for i in (place..self.count).rev() {
-            self.places[i + 1] = self.places[i];
-        }
-    }
-
-    fn raise_count(&mut self)
-        requires { self.old.count < length self.old.places.now }
-        ensures count { self.new.count ≡ self.old.count + 1 }
-        ensures places { self.new.places.now ≡ self.old.places.now }
-        ensures lent { self.new.places.ghost_name ≡ self.old.places.ghost_name }
-    {
+        let places = &mut *self.places;
+        places.copy_within(place..self.count, place + 1);
+        places[place] = new;
         self.count += 1;
     }
+}
+
+// Blanks every record.
+pub(super) fn blank_all<R: Record>(records: &mut [R])
+    ensures { records.new ≡ replicate (length records.old) R.vacant }
+{
+    let blank = R::blank();
+    records.fill_with(|| blank);
 }

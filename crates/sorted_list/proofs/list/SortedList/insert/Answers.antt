@@ -1,20 +1,9 @@
-use Rattle.std.proofs.Common.{◌+◌, sym, ap, ◌∙◌}
-use Rattle.std.proofs.lemmas.List.{length-take-le}
-use Rattle.sorted_list.specs.Lists.{held, cut}
-use Rattle.sorted_list.proofs.Places.{put_held}
+use Rattle.std.proofs.Common.{arith}
+use Rattle.sorted_list.proofs.Walks.{put_ascends}
 use Rattle.sorted_list.proofs.list.SortedList.insert.Goals as goal
 
-pub returns : goal.returns
-returns g c =
+pub invariant_of-self-clause-ascends : goal.invariant_of-self-clause-ascends
+invariant_of-self-clause-ascends g c =
     let was = c.args.self.now in
-    let n = was.count in
-    let raised = c.raise_count.ensures in
-    let left = c.shift.ensures.places in
-    let count = raised.count ∙ ap (λ k. k + 1) c.shift.ensures.count in
-    let counted = sym (length-take-le n was.places.now was.within) in
-    let m = c.shift.new.self.places.now in
-    let put = put_held m (held was) n c.args.place c.args.new left.0 c.requires.0 counted left.1 in
-    record {
-      holds = ap (cut c.raise_count.new.self.places.now) count ∙ ap (λ l. cut l (n + 1)) raised.places ∙ put;
-      lent = raised.lent ∙ c.shift.ensures.lent;
-    }
+    put_ascends g.R.Record.rank g.met.R.Record.order _ was.places.now was.count c.args.place c.args.new c.copy_within.ensures.after
+    was.ascends c.requires.place c.requires.room _ (omega arith)
