@@ -74,13 +74,13 @@ going limit s all = record { answers = refl; leaves = refl; bound = omega arith 
 module _ {T E F : Type 0} (r : Result T E) {m : Result T F} (Q : E → F → Type 0) where
   pub mapped_ok : (x : T) → MatchResult r (λ y. m ≡ Ok y) (λ e. IsErrAnd m (Q e)) → m ≡ Ok x → r ≡ Ok x
   mapped_ok x h k = elim r as (λ r. MatchResult r (λ y. m ≡ Ok y) (λ e. IsErrAnd m (Q e)) → r ≡ Ok x) [
-    Ok y ↦ λ is. ap Ok (ok_same (sym is ∙ k))
+    | Ok y ↦ λ is. ap Ok (ok_same (sym is ∙ k))
     | Err e ↦ λ is. absurd (ok_or_err k (err_from_is_err_and m is).1)
   ] h
 
   pub mapped_err : (f : F) → MatchResult r (λ y. m ≡ Ok y) (λ e. IsErrAnd m (Q e)) → m ≡ Err f → (e : E) × (r ≡ Err e) × Q e f
   mapped_err f h k =
       elim r as (λ r. MatchResult r (λ y. m ≡ Ok y) (λ e. IsErrAnd m (Q e)) → (e : E) × (r ≡ Err e) × Q e f) [
-        Ok y ↦ λ is. absurd (ok_or_err is k)
+        | Ok y ↦ λ is. absurd (ok_or_err is k)
         | Err e ↦ λ is. let p = err_from_is_err_and m is in (e, refl, subst (Q e) (err_same (sym p.1 ∙ k)) p.2)
       ] h
