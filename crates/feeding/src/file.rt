@@ -47,6 +47,7 @@ impl<O: SegmentOrder> Lent<'_, '_, '_, '_, O> {
             (taken O.limit (state_of O.meaning self.old) (lines file.now)) }
         ensures lent { SameLoans self.old self.new }
     {
+        // Counted here, and not by `enumerate`: after the last line the count is the answer.
         let mut line: u32 = 0;
         for bytes in Lines::of(file) {
             line += 1;

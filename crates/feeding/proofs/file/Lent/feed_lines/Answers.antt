@@ -19,21 +19,22 @@ loop-bytes-preserved g c =
       search rules,
     )
 
-pub returns-in_err-map_err : goal.returns-in_err-map_err
-returns-in_err-map_err g c =
+pub returns-in_err-map_err-clause-answers : goal.returns-in_err-map_err-clause-answers
+returns-in_err-map_err-clause-answers g c =
     let p = err_from_is_err_and c.from_residual.result c.from_residual.ensures.1 in
-    let going = c.loop-bytes.invariant.0 in
     let at = mapped_err _ _ _ c.map_err.ensures.cases c.in_err-map_err.was in
     let numbered : c.in_err-map_err.field-0.0 ≡ at_line (c.loop-bytes.line + 1) at.0 = search rules in
-    let is = sym c.take_line.ensures.answers ∙ at.1 in
-    record {
-      answers = rw (p.1, p.2, numbered) (going_fault going c.in-Some.ensures.steps c.take_line.ensures.leaves at.0 is);
-      leaves = going_left going c.in-Some.ensures.steps c.take_line.ensures.leaves at.0 is;
-      lent = search rules;
-    }
+    rw (p.1, p.2, numbered) (going_fault c.loop-bytes.invariant.0 c.in-Some.ensures.steps c.take_line.ensures.leaves
+    at.0 (sym c.take_line.ensures.answers ∙ at.1))
 
-pub returns : goal.returns
-returns g c =
-    let none = c.in-None.ensures.steps.0 in
-    let inv = c.loop-bytes.invariant in
-    record { answers = going_end inv.0 none; leaves = going_all inv.0 none; lent = inv.1 }
+pub returns-in_err-map_err-clause-leaves : goal.returns-in_err-map_err-clause-leaves
+returns-in_err-map_err-clause-leaves g c =
+    let at = mapped_err _ _ _ c.map_err.ensures.cases c.in_err-map_err.was in
+    going_left c.loop-bytes.invariant.0 c.in-Some.ensures.steps c.take_line.ensures.leaves
+    at.0 (sym c.take_line.ensures.answers ∙ at.1)
+
+pub returns-clause-answers : goal.returns-clause-answers
+returns-clause-answers g c = going_end c.loop-bytes.invariant.0 c.in-None.ensures.steps.0
+
+pub returns-clause-leaves : goal.returns-clause-leaves
+returns-clause-leaves g c = going_all c.loop-bytes.invariant.0 c.in-None.ensures.steps.0
