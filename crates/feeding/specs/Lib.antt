@@ -1,3 +1,3 @@
-pub mod Causes
+pub mod Lent
 pub mod Stops
 pub mod Files
