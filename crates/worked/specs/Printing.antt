@@ -7,7 +7,7 @@ use Rattle.rows.specs.declared.row.CircleRow.{CircleRow}
 use Rattle.recording.specs.declared.answer.Answer.{Answer}
 use Rattle.feeding.specs.declared.fault.Fault.{Fault}
 use Rattle.file_check.specs.Checks.{checked, circles_after}
-use Rattle.printing.specs.Texts.{steps_text, count_text, fault_text}
+use Rattle.output.specs.Texts.{steps_text, count_text, fault_text}
 use Rattle.output.specs.declared.cause.OutputCause.{OutputCause}
 
 -- A circle that has no odds has no line.

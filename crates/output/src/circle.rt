@@ -1,36 +1,35 @@
 // The line of a circle, with its odds: `T0:L1>L2 T1:L2>L1 odds 5000`.
-ghost use Rattle.std.specs.Prelude.{◌≡◌, ◌+◌, ◌*◌, ◌≤◌, length, take, IfOk};
+ghost use Rattle.std.specs.Prelude.{◌≡◌, ◌+◌, ◌*◌, ◌≤◌, length, IfOk};
+ghost use Rattle.arrayvec.specs.ArrayString.{array_string_len};
 ghost use Rattle.rows.specs.Circles.{steps_of};
-ghost use Rattle.printing.specs.Lines.{answer, memory_after};
-ghost use Rattle.printing.specs.Texts.{stepped, all_stepped, steps_text, circle_text};
+ghost use Rattle.output.specs.Lines.{answer, memory_after};
+ghost use Rattle.output.specs.Texts.{stepped, all_stepped, steps_text, circle_text};
 
-use crate::line::{LINE_MEMORY, put, put_end, put_labelled};
-use output::{OutputCause, odds};
+use crate::line::{Text, put_labelled, put_line};
+use crate::{OutputCause, odds};
 use rows::{Circle, CircleRow, Step};
 
-// One step and a blank, at most 15 bytes. The room is for numbers of ten digits.
-fn put_step(line: &mut [u8], at: usize, step: &Step) -> usize
-    requires { at + 36 ≤ length line.old }
-    ensures text { take result line.new ≡ stepped (take at line.old) step.now }
-    ensures short { result ≤ at + 15 }
+// One step and a blank, at most 15 bytes.
+fn put_step(text: &mut Text, step: &Step)
+    requires { array_string_len text.old + 15 ≤ 1024 }
+    ensures text { text.new.bytes ≡ stepped text.old.bytes step.now }
+    ensures short { array_string_len text.new ≤ array_string_len text.old + 15 }
 {
-    let at = put_labelled(line, at, b"T", step.thread as u32);
-    let at = put_labelled(line, at, b":L", step.held as u32);
-    let at = put_labelled(line, at, b">L", step.wanted as u32);
-    put(line, at, b" ")
+    put_labelled(text, "T", step.thread);
+    put_labelled(text, ":L", step.held);
+    put_labelled(text, ">L", step.wanted);
+    text.push_str(" ");
 }
 
 // The steps in turn.
-fn put_steps(line: &mut [u8], at: usize, steps: &[Step]) -> usize
-    requires { at + (15 * length steps.now + 36) ≤ length line.old }
-    ensures text { take result line.new ≡ all_stepped (take at line.old) steps.now }
-    ensures short { result ≤ at + 15 * length steps.now }
+fn put_steps(text: &mut Text, steps: &[Step])
+    requires { array_string_len text.old + 15 * length steps.now ≤ 1024 }
+    ensures text { text.new.bytes ≡ all_stepped text.old.bytes steps.now }
+    ensures short { array_string_len text.new ≤ array_string_len text.old + 15 * length steps.now }
 {
-    let mut at = at;
     for step in steps {
-        at = put_step(line, at, step);
+        put_step(text, step);
     }
-    at
 }
 
 // The line of these steps, with their odds at n. Without odds there is no line.
@@ -41,12 +40,10 @@ fn steps_line(steps: &[Step], n: u32, line: &mut [u8]) -> Result<usize, OutputCa
     ensures within { IfOk result (λ end. end ≤ length line.old) }
 {
     let chance = odds(steps.len() as u32, n)?;
-    if line.len() < LINE_MEMORY {
-        return Err(OutputCause::Memory);
-    }
-    let at = put_steps(line, 0, steps);
-    let at = put_labelled(line, at, b"odds ", chance);
-    Ok(put_end(line, at))
+    let mut text = Text::new();
+    put_steps(&mut text, steps);
+    put_labelled(&mut text, "odds ", chance);
+    put_line(text, line)
 }
 
 // The counted steps.
@@ -54,7 +51,7 @@ fn counted(row: &CircleRow) -> &[Step]
     requires { row.now.count ≤ 64 }
     ensures { result.now ≡ steps_of row.now }
 {
-    &row.steps[0..row.count as usize]
+    &row.steps[..usize::from(row.count)]
 }
 
 // Writes the line with its newline, and zeros behind it, and answers its length.

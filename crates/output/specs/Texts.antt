@@ -1,9 +1,9 @@
 -- The texts of the lines. A piece takes what stands before it in its line, and is put behind that.
 -- Assumes nothing.
 use Rattle.std.specs.Prelude.{ℕ, List, [], ◌∷◌, ◌++◌, length, Ok, Err, codes, decimal, Result}
-use Rattle.feeding.specs.Causes.{number_of, word_of}
-use Rattle.feeding.specs.declared.fault.Cause.{Cause}
-use Rattle.feeding.specs.declared.fault.Fault.{Fault}
+use Rattle.feed.specs.Causes.{number_of, word_of}
+use Rattle.feed.specs.declared.fault.Cause.{Cause}
+use Rattle.feed.specs.declared.fault.Fault.{Fault}
 use Rattle.rows.specs.Circles.{steps_of}
 use Rattle.rows.specs.declared.circle.Circle.{Circle}
 use Rattle.rows.specs.declared.step.Step.{Step}
