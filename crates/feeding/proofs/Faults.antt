@@ -7,7 +7,7 @@ use Rattle.text.specs.Lines.{text_of}
 use Rattle.text.proofs.Readings.{reading_says}
 use Rattle.text.proofs.Results.{ok_or_err, err_same}
 use Rattle.rules.specs.States.{State, after, after_all}
-use Rattle.feeding.specs.declared.fault.Fault.{Fault}
+use Rattle.feed.specs.declared.fault.Fault.{Fault}
 use Rattle.feeding.specs.declared.fault.Stop.{Stop}
 use Rattle.feed.specs.Files.{file_of, AllSayable}
 use Rattle.feeding.specs.Files.{fed, taken, AllAccepted, Bad}

@@ -5,7 +5,7 @@ use Rattle.std.proofs.lemmas.Bool.{cond-true, cond-false, cases_Bool, leb-true, 
 use Rattle.rows.specs.declared.event.Event.{Event}
 use Rattle.text.proofs.Results.{ok_or_err, err_same}
 use Rattle.rules.specs.States.{State, after}
-use Rattle.feeding.specs.declared.fault.Fault.{Fault}
+use Rattle.feed.specs.declared.fault.Fault.{Fault}
 use Rattle.feeding.specs.declared.fault.Stop.{Stop}
 use Rattle.feeding.specs.Files.{fed, taken, too_long, file_answer, events_taken, AllAccepted, Says, TooLong, FirstFault, Feeds}
 use Rattle.feed.specs.Lines.{lines}

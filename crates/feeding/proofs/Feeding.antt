@@ -5,7 +5,7 @@ use Rattle.std.proofs.lemmas.List.{nil_from_length}
 use Rattle.rows.specs.declared.event.Event.{Event}
 use Rattle.rules.specs.States.{State, after, after_all}
 use Rattle.text.proofs.Results.{ok_or_err, ok_same, err_same}
-use Rattle.feeding.specs.declared.fault.Fault.{Fault}
+use Rattle.feed.specs.declared.fault.Fault.{Fault}
 use Rattle.feeding.specs.declared.fault.Stop.{Stop}
 use Rattle.feeding.specs.Files.{fed, taken}
 use Rattle.feed.specs.Lines.{first_of, later_of, lines}

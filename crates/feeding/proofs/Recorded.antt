@@ -12,8 +12,8 @@ use Rattle.rules.specs.Behind.{Behind}
 use Rattle.rules.specs.Calls.{unless_refused}
 use Rattle.rules.specs.Laws.{ListsAreRecorded, EndsAreOpen}
 use Rattle.rules.specs.States.{State, after, after_all, recorded_all}
-use Rattle.feeding.specs.declared.fault.Cause.TheVariants.{Text, Order}
-use Rattle.feeding.specs.declared.fault.Fault.{Fault}
+use Rattle.feed.specs.declared.fault.Cause.TheVariants.{Text, Order}
+use Rattle.feed.specs.declared.fault.Fault.{Fault}
 use Rattle.feeding.specs.declared.fault.Stop.{Stop}
 use Rattle.feeding.specs.Files.{events_taken, after_file, AllAccepted, TooLong, FirstFault, Bad}
 use Rattle.feed.specs.Lines.{first_of}

@@ -7,7 +7,7 @@ use Rattle.text.specs.declared.fault.TextCause.TheVariants.{Size}
 use Rattle.text.specs.Lines.{reading}
 use Rattle.rules.specs.declared.cause.EventCause.{EventCause}
 use Rattle.rules.specs.States.{State, answer, after, after_all}
-use Rattle.feeding.specs.declared.fault.Fault.{Fault}
+use Rattle.feed.specs.declared.fault.Fault.{Fault}
 use Rattle.feeding.specs.declared.fault.Stop.{Stop}
 use Rattle.feed.specs.Files.{file_of, AllSayable}
 use Rattle.feed.specs.Lines.{first_of, lines}

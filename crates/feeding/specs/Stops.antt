@@ -4,14 +4,13 @@ use Rattle.std.specs.Prelude.{ℕ, List, Ok, Err, Result}
 use Rattle.rows.specs.declared.event.Event.{Event}
 use Rattle.text.specs.declared.fault.LineFault.{LineFault}
 use Rattle.text.specs.Lines.{reading}
-use Rattle.recording.specs.declared.cause.SearchCause.{SearchCause}
 use Rattle.rules.specs.declared.cause.EventCause.{EventCause}
 use Rattle.rules.specs.declared.cause.EventCause.TheVariants.{Ledger as in_ledger, Order as in_order}
 use Rattle.rules.specs.Calls.{Answer}
 use Rattle.rules.specs.States.{State, answer, after}
-use Rattle.feeding.specs.declared.fault.Fault.{Fault}
+use Rattle.feed.specs.declared.fault.Fault.{Fault}
 use Rattle.feeding.specs.declared.fault.Stop.{Stop}
-use Rattle.feeding.specs.declared.fault.Cause.TheVariants.{Text, Ledger, Order, Search}
+use Rattle.feed.specs.declared.fault.Cause.TheVariants.{Text, Ledger, Order}
 
 -- A line that is no event's text stops feeding at its leftmost wrong byte, one whose event is turned down in column 1.
 abbrev pub text_stop : LineFault → Stop
@@ -23,10 +22,6 @@ event_stop (in_order c) = record { column = 1; cause = Order c }
 
 abbrev pub at_line : ℕ → Stop → Fault
 at_line n s = record { line = n; column = s.column; cause = s.cause }
-
--- A report that is refused has no line.
-abbrev pub search_fault : SearchCause → Fault
-search_fault c = record { line = 0; column = 0; cause = Search c }
 
 -- An event that is accepted is taken.
 abbrev pub unless_stopped : Event → Answer → Result Event Stop

@@ -1,69 +1,12 @@
-// What stopped the feeding of a file: where, and why, by the layer that turned it down.
+// Where in a line feeding stops, and why.
 ghost use Rattle.std.specs.Prelude.{◌≡◌};
-ghost use Rattle.feeding.specs.Causes.{number_of, word_of};
-ghost use Rattle.feeding.specs.Stops.{text_stop, event_stop, at_line, search_fault};
+ghost use Rattle.feeding.specs.Stops.{text_stop, event_stop, at_line};
 
-use order::OrderCause;
-use recording::SearchCause;
-use rules::{EventCause, LedgerCause};
-use text::{LineFault, TextCause};
+use feed::{Cause, Fault};
+use rules::EventCause;
+use text::LineFault;
 
-// The layer that turned a recording down, with that layer's own cause, whole.
-#[derive(Clone, Copy, PartialEq, Eq, Debug)]
-pub enum Cause {
-    Text(TextCause),
-    Ledger(LedgerCause),
-    Order(OrderCause),
-    Search(SearchCause),
-}
-
-impl Cause {
-    pub fn number(&self) -> u32
-        ensures { result ≡ number_of self.now }
-    {
-        match self {
-            Cause::Text(cause) => cause.number(),
-            Cause::Ledger(cause) => cause.number(),
-            Cause::Order(cause) => cause.number(),
-            Cause::Search(cause) => cause.number(),
-        }
-    }
-
-    // The word for the layer.
-    pub fn layer(&self) -> &'static str
-        ensures { result.now ≡ word_of self.now }
-    {
-        match self {
-            Cause::Text(_) => "text",
-            Cause::Ledger(_) => "ledger",
-            Cause::Order(_) => "order",
-            Cause::Search(_) => "search",
-        }
-    }
-}
-
-// Lines and columns count from 1; a file that is turned down as a whole, and a report that is refused, have 0 for both.
-#[derive(Clone, Copy, PartialEq, Eq, Debug)]
-pub struct Fault {
-    pub line: u32,
-    pub column: u32,
-    pub cause: Cause,
-}
-
-// A report that is refused has no line.
-impl From<SearchCause> for Fault {
-    ghost from_gives = { λ c r. r ≡ search_fault c };
-
-    fn from(cause: SearchCause) -> Fault {
-        Fault {
-            line: 0,
-            column: 0,
-            cause: Cause::Search(cause),
-        }
-    }
-}
-
-// Where in a line feeding stops, and why: a fault but for the number of the line.
+// A fault but for the number of the line.
 #[derive(Clone, Copy)]
 pub(crate) struct Stop {
     column: u32,

@@ -8,10 +8,10 @@ ghost use Rattle.rules.specs.Behind.{Behind};
 ghost use Rattle.feeding.specs.Files.{fed, taken, file_answer, events_taken, after_file, Feeds};
 ghost use Rattle.feed.specs.Lines.{lines};
 ghost use Rattle.feeding.specs.Stops.{line_answer, line_after, numbered};
-ghost use Rattle.feeding.specs.declared.fault.Cause.TheVariants.{Order};
+ghost use Rattle.feed.specs.declared.fault.Cause.TheVariants.{Order};
 
-use crate::fault::{Cause, Fault, Stop};
-use feed::first_line;
+use crate::fault::Stop;
+use feed::{Cause, Fault, first_line};
 use ledger::Ledger;
 use order::SegmentOrder;
 use rows::{Edge, Event};

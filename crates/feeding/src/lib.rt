@@ -4,5 +4,5 @@
 mod fault;
 mod file;
 
-pub use fault::{Cause, Fault};
+pub use feed::{Cause, Fault};
 pub use file::feed;

@@ -15,8 +15,8 @@ use Rattle.rules.specs.Behind.{Behind}
 use Rattle.rules.specs.States.{State, fresh_state}
 use Rattle.rules.proofs.Recorded.{nothing_behind_fresh, lists_are_recorded, ends_are_open}
 use Rattle.feeding.specs.Files.{file_answer, after_file, Says}
-use Rattle.feeding.specs.Stops.{search_fault}
-use Rattle.feeding.specs.declared.fault.Fault.{Fault}
+use Rattle.feed.specs.Causes.{search_fault}
+use Rattle.feed.specs.declared.fault.Fault.{Fault}
 use Rattle.feeding.proofs.Fed.{feeds}
 use Rattle.feeding.proofs.Recorded.{file_recorded}
 use Rattle.search.specs.Promises.{BehindBoth, ListsStops}

@@ -10,8 +10,8 @@ use Rattle.recording.specs.declared.answer.Answer.{Answer}
 use Rattle.recording.specs.declared.cause.SearchCause.{SearchCause}
 use Rattle.rules.specs.States.{State, fresh_state}
 use Rattle.feeding.specs.Files.{file_answer, after_file, Says, TooLong, FirstFault}
-use Rattle.feeding.specs.Stops.{search_fault}
-use Rattle.feeding.specs.declared.fault.Fault.{Fault}
+use Rattle.feed.specs.Causes.{search_fault}
+use Rattle.feed.specs.declared.fault.Fault.{Fault}
 use Rattle.search.specs.Promises.{ListsStops}
 
 -- Rows, edge list and order once the file was fed to a fresh ledger with places for so many edges. The limit is the order's ceiling.

@@ -5,7 +5,7 @@ use Rattle.sorted_list.specs.Lists.{opened}
 use Rattle.rows.specs.Circles.{steps_of, blank_row}
 use Rattle.rows.specs.declared.row.CircleRow.{CircleRow}
 use Rattle.recording.specs.declared.answer.Answer.{Answer}
-use Rattle.feeding.specs.declared.fault.Fault.{Fault}
+use Rattle.feed.specs.declared.fault.Fault.{Fault}
 use Rattle.file_check.specs.Checks.{checked, circles_after}
 use Rattle.output.specs.Texts.{steps_text, count_text, fault_text}
 use Rattle.output.specs.declared.cause.OutputCause.{OutputCause}
