@@ -46,6 +46,11 @@ steps_text zs n = with_odds zs (odds_of (length zs) n)
 abbrev pub circle_text : Circle → ℕ → Result (List ℕ) OutputCause
 circle_text c = steps_text (steps_of c.row)
 
+-- a circle that has no odds has no line
+abbrev pub line_or_none : Result (List ℕ) OutputCause → List ℕ
+line_or_none (Ok text) = text
+line_or_none (Err cause) = []
+
 -- the line with the numbers of circles and of chains
 abbrev pub count_text : ℕ → ℕ → List ℕ
 count_text circles chains = ended (labelled (labelled [] (codes "circles ") circles) (codes " chains ") chains)
