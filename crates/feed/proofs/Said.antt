@@ -15,7 +15,7 @@ use Rattle.feed.proofs.Splitting.{lines_split}
 use Rattle.feed.proofs.Texts.{Ended, lines_of_ended}
 
 -- the lines, each with its newline
-abbrev unlines : List (List ℕ) → List ℕ
+abbrev pub unlines : List (List ℕ) → List ℕ
 unlines [] = []
 unlines (l ∷ ls) = l ++ (10 ∷ unlines ls)
 
@@ -27,7 +27,7 @@ unlines_onto : (b : ℕ) (ls : List (List ℕ)) → 0 < length ls → unlines (o
 unlines_onto b [] h = absurd (omega arith)
 unlines_onto b (l ∷ ls) h = refl
 
-lines_joined : (file : List ℕ) → Ended file (unlines (lines file))
+pub lines_joined : (file : List ℕ) → Ended file (unlines (lines file))
 lines_joined [] = inl refl
 lines_joined (b ∷ []) =
     ⊎_elim
@@ -82,7 +82,7 @@ said_lines (e ∷ es) n s =
     ∙ ap (λ r. go_on r e) (said_lines es (n + 1) s.1)
 
 -- the texts, each with its newline, are the file of the events
-unlines_texts : (es : List Event) → unlines (map text_of es) ≡ file_of es
+pub unlines_texts : (es : List Event) → unlines (map text_of es) ≡ file_of es
 unlines_texts [] = refl
 unlines_texts (e ∷ es) = ap (λ t. text_of e ++ (10 ∷ t)) (unlines_texts es)
 

@@ -1,41 +1,55 @@
 -- How a file splits into lines.
 -- Assumes nothing.
-use Rattle.std.proofs.Common.{◌≡◌, ℕ, suc, ◌+◌, ◌<◌, ◌≤◌, eqb, List, [], ◌∷◌, ◌++◌, length, get_or, take, drop, sym, refl, ap, ◌∙◌, ⊎_elim, append_assoc, append-nil, arith}
-use Rattle.std.proofs.lemmas.List.{take_more, take_all, drop_more, drop_all}
-use Rattle.std.proofs.lemmas.Bool.{cond-true, cond-false, cond_both, cases_Bool, eq-eqb, ne_eqb}
+use Rattle.std.proofs.Common.{◌≡◌, ℕ, suc, ◌+◌, ◌<◌, ◌≤◌, Bool, true, false, not, cond, eqb, ltb, ◌⊎◌, List, [], ◌∷◌, length, take, drop, Some, None, position, sym, refl, ap, ◌∙◌, inl, inr, ⊎_elim, arith}
+use Rattle.std.specs.List.{position_or_len, before_first, after_first}
+use Rattle.std.proofs.Math.Numerals.{one-add, add-one}
+use Rattle.std.proofs.lemmas.List.{take_all, drop_all}
+use Rattle.std.proofs.lemmas.List.Quantifiers.{position-Some}
+use Rattle.std.proofs.lemmas.List.Sums.{position_or_len_is}
+use Rattle.std.proofs.lemmas.Bool.{cond-true, cond-false, cond_both, cases_Bool, ltb-false}
 use Rattle.feed.specs.Lines.{first_of, later_of, onto, lines}
 
--- no newline among the first i bytes
-pub record Within (bs : List ℕ) (i : ℕ) : Type 0 where
-  pub first : first_of bs ≡ take i bs ++ first_of (drop i bs)
-  pub later : later_of bs ≡ later_of (drop i bs)
+-- a byte that ends a line
+abbrev pub ends_line : ℕ → Bool
+ends_line b = eqb b 10
 
-pub within_none : (bs : List ℕ) → Within bs 0
-within_none bs = record { first = refl; later = refl }
+first_is : (bs : List ℕ) → first_of bs ≡ before_first ends_line bs
+first_is [] = refl
+first_is (b ∷ bs) = go (eqb b 10) (first_is bs)
+  where
+    go : (t : Bool) → first_of bs ≡ before_first ends_line bs
+        → cond t [] (b ∷ first_of bs) ≡ take (cond (not t) (1 + position_or_len ends_line bs) 0) (b ∷ bs)
+    go true h = refl
+    go false h = rw (one-add, h) refl
 
-module _ (bs : List ℕ) (i : ℕ) (w : Within bs i) where
-  pub within_more : i < length bs → (get_or bs i 0 ≡ 10 → ⊥) → Within bs (i + 1)
-  within_more h d =
-      let other = ne_eqb (get_or bs i 0) 10 d in
-      let next = drop_more bs i 0 h in
-      record {
-        first = w.first ∙ ap (λ t. take i bs ++ t) (ap first_of next ∙ cond-false _ _ _ other)
-            ∙ sym (ap (λ t. t ++ first_of (drop (i + 1) bs)) (take_more bs i 0 h) ∙ append_assoc (take i bs) _ _);
-        later = w.later ∙ ap later_of next ∙ cond-false _ _ _ other;
-      }
+later_is : (bs : List ℕ) → later_of bs ≡ after_first ends_line bs
+later_is [] = refl
+later_is (b ∷ bs) = go (eqb b 10) (later_is bs)
+  where
+    go : (t : Bool) → later_of bs ≡ after_first ends_line bs
+        → cond t bs (later_of bs) ≡ drop (cond (not t) (1 + position_or_len ends_line bs) 0 + 1) (b ∷ bs)
+    go true h = refl
+    go false h = rw (one-add, add-one) (rw add-one at h)
 
-  pub newline_first : i < length bs → get_or bs i 0 ≡ 10 → take i bs ≡ first_of bs
-  newline_first h d =
-      sym (w.first ∙ ap (λ t. take i bs ++ t) (ap first_of (drop_more bs i 0 h) ∙ cond-true _ _ _ (eq-eqb _ _ d)) ∙ append-nil (take i bs))
+-- the first line ends at the newline that was found, or with the file
+module _ (bs : List ℕ) where
+  pub found_first : (end : ℕ) → Some end ≡ position ends_line bs → (take end bs ≡ first_of bs) × (drop (end + 1) bs ≡ later_of bs)
+  found_first end e =
+      let n = position-Some ends_line bs end 0 (sym e) in
+      let is = position_or_len_is ends_line bs end 0 (omega (arith, n.0)) n.2 (λ _. n.1) in
+      (rw (first_is bs, is) refl, rw (later_is bs, is) refl)
 
-  pub newline_later : i < length bs → get_or bs i 0 ≡ 10 → drop (i + 1) bs ≡ later_of bs
-  newline_later h d = sym (w.later ∙ ap later_of (drop_more bs i 0 h) ∙ cond-true _ _ _ (eq-eqb _ _ d))
+  pub found_none : None ≡ position ends_line bs → (bs ≡ first_of bs) × ([] ≡ later_of bs)
+  found_none e = go (cases_Bool (ltb n (length bs)))
+    where
+      n : ℕ
+      n = position_or_len ends_line bs
 
-  pub ends_first : length bs ≤ i → bs ≡ first_of bs
-  ends_first h = sym (w.first ∙ (λ k. take_all i bs h k ++ first_of (drop_all i bs h k)) ∙ append-nil bs)
-
-  pub ends_later : length bs ≤ i → [] ≡ later_of bs
-  ends_later h = sym (w.later ∙ ap later_of (drop_all i bs h))
+      go : (ltb n (length bs) ≡ true) ⊎ (ltb n (length bs) ≡ false) → (bs ≡ first_of bs) × ([] ≡ later_of bs)
+      go (inl t) = let z = e ∙ cond-true _ _ _ t in absurd (cc)
+      go (inr t) =
+          let all = ltb-false n (length bs) t in
+          (sym (first_is bs ∙ take_all n bs all), sym (later_is bs ∙ drop_all (n + 1) bs (omega (arith, all))))
 
 -- the first line, and the others
 pub lines_split : (bs : List ℕ) → 0 < length bs → lines bs ≡ first_of bs ∷ lines (later_of bs)
@@ -62,3 +76,11 @@ later_within (b ∷ bs) = cond_both (eqb b 10) bs (later_of bs) (λ cs. length c
 pub later_less : (bs : List ℕ) → 0 < length bs → length (later_of bs) < length bs
 later_less [] h = absurd (omega arith)
 later_less (b ∷ bs) h = cond_both (eqb b 10) bs (later_of bs) (λ cs. length cs < suc (length bs)) (λ _. omega arith) (λ _. omega (arith, later_within bs))
+
+pub lines_bound : (bs : List ℕ) → length (lines bs) ≤ length bs
+lines_bound [] = omega arith
+lines_bound (b ∷ bs) = cond_both (eqb b 10) ([] ∷ lines bs) (onto b (lines bs)) (λ ls. length ls ≤ suc (length bs)) (λ _. omega (arith, lines_bound bs)) (λ _. omega (arith, onto_bound (lines bs), lines_bound bs))
+  where
+    onto_bound : (ls : List (List ℕ)) → length (onto b ls) ≤ suc (length ls)
+    onto_bound [] = omega arith
+    onto_bound (l ∷ ls) = omega arith

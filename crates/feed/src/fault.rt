@@ -49,6 +49,15 @@ pub struct Fault {
     pub cause: Cause,
 }
 
+impl Fault {
+    // A file that is longer than a recording may be.
+    pub const TOO_LONG: Fault = Fault {
+        line: 0,
+        column: 0,
+        cause: Cause::Text(TextCause::Size),
+    };
+}
+
 // A report that is refused has no line.
 impl From<SearchCause> for Fault {
     ghost from_gives = { λ c r. r ≡ search_fault c };

@@ -1,10 +1,10 @@
 // Feeding a whole file, line by line.
 #![tactic(auto)]
 
+mod cut;
 mod fault;
 mod file;
-mod lines;
 
+pub use cut::{Lines, first_line};
 pub use fault::{Cause, Fault};
-pub use file::feed;
-pub use lines::first_line;
+pub use file::{LONGEST, feed};

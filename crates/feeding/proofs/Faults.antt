@@ -1,7 +1,6 @@
 -- Where the feeding of a file stops.
 -- Assumes nothing.
-use Rattle.std.proofs.Common.{◌≡◌, ℕ, zero, suc, ◌+◌, ◌<◌, ◌≤◌, eqb, List, [], ◌∷◌, ◌++◌, length, Ok, Err, Result, sym, refl, ap, ◌∙◌, ⊎_elim, append_assoc, arith}
-use Rattle.std.proofs.lemmas.Bool.{cond-true, cond-false, cases_Bool, eqb-true}
+use Rattle.std.proofs.Common.{◌≡◌, ℕ, zero, suc, ◌+◌, ◌<◌, ◌≤◌, List, [], ◌∷◌, ◌++◌, length, Ok, Err, Result, sym, refl, ap, ◌∙◌, append_assoc, arith}
 use Rattle.rows.specs.declared.event.Event.{Event}
 use Rattle.text.specs.Lines.{text_of}
 use Rattle.text.proofs.Readings.{reading_says}
@@ -15,18 +14,8 @@ use Rattle.feed.specs.Lines.{first_of, later_of, lines}
 use Rattle.feeding.specs.Stops.{at_line, line_answer}
 use Rattle.feeding.proofs.Feeding.{fed_more, fed_stop, taken_more, taken_stop}
 use Rattle.feeding.proofs.Said.{line_taken, line_bad}
+use Rattle.feed.proofs.Faults.{line_split}
 use Rattle.feed.proofs.Splitting.{lines_split, later_less}
-
--- where a later line follows, a newline stands between
-line_split : (bs : List ℕ) → 0 < length (later_of bs) → bs ≡ first_of bs ++ (10 ∷ later_of bs)
-line_split [] h = absurd (omega arith)
-line_split (b ∷ bs) h =
-    ⊎_elim
-    (λ e. rw (cond-true (eqb b 10) [] (b ∷ first_of bs) e, cond-true (eqb b 10) bs (later_of bs) e) (ap (λ x. x ∷ bs) (eqb-true b 10 e)))
-    (λ e.
-    let more = rw (cond-false (eqb b 10) bs (later_of bs) e) at h in
-    rw (cond-false (eqb b 10) [] (b ∷ first_of bs) e, cond-false (eqb b 10) bs (later_of bs) e) (ap (λ t. b ∷ t) (line_split bs more)))
-    (cases_Bool (eqb b 10))
 
 module _ (limit : ℕ) where
   some_line : (s : State) (n : ℕ) (bs : List ℕ) (f : Fault) → fed limit s n (lines bs) ≡ Err f → 0 < length bs

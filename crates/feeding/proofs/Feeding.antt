@@ -1,16 +1,13 @@
 -- The lines of a file, taken one after another.
 -- Assumes nothing.
-use Rattle.std.proofs.Common.{◌≡◌, ℕ, ◌+◌, ◌<◌, ◌≤◌, List, [], ◌∷◌, length, Ok, Err, Result, sym, refl, ap, ◌∙◌, arith}
-use Rattle.std.proofs.lemmas.List.{nil_from_length}
+use Rattle.std.proofs.Common.{◌≡◌, ℕ, ◌+◌, ◌≤◌, List, [], ◌∷◌, length, Ok, Err, Result, MatchResult, IsErrAnd, sym, refl, ap, ◌∙◌, subst, arith}
+use Rattle.std.proofs.lemmas.Result.{err_from_is_err_and}
+use Rattle.text.proofs.Results.{ok_or_err, ok_same, err_same}
 use Rattle.rows.specs.declared.event.Event.{Event}
 use Rattle.rules.specs.States.{State, after, after_all}
-use Rattle.text.proofs.Results.{ok_or_err, ok_same, err_same}
-use Rattle.feed.specs.declared.fault.Fault.{Fault}
 use Rattle.feeding.specs.declared.fault.Stop.{Stop}
 use Rattle.feeding.specs.Files.{fed, taken}
-use Rattle.feed.specs.Lines.{first_of, later_of, lines}
-use Rattle.feeding.specs.Stops.{at_line, line_answer, line_after, numbered}
-use Rattle.feed.proofs.Splitting.{lines_split, later_less}
+use Rattle.feeding.specs.Stops.{at_line, line_answer, line_after}
 
 module _ (limit : ℕ) (s : State) (l : List ℕ) (ls : List (List ℕ)) where
   -- the first of the lines is taken
@@ -35,62 +32,55 @@ module _ (limit : ℕ) (s : State) (l : List ℕ) (ls : List (List ℕ)) where
     pub after_stop : line_after limit s l ≡ s
     after_stop = rw (line_after, h)
 
--- n lines were taken, and what is left of the file then brings what the whole file brings.
-pub record Going (limit : ℕ) (whole : State) (file : List ℕ) (s : State) (rest : List ℕ) (n : ℕ) : Type 0 where
-  pub answers : fed limit s n (lines rest) ≡ fed limit whole 0 (lines file)
-  pub leaves : after_all limit s (taken limit s (lines rest)) ≡ after_all limit whole (taken limit whole (lines file))
-  pub bound : n + length rest ≤ length file
+-- n lines were taken, and the lines left then bring what all of them bring.
+pub record Going (limit : ℕ) (whole : State) (all : List (List ℕ)) (s : State) (left : List (List ℕ)) (n : ℕ) : Type 0 where
+  pub answers : fed limit s n left ≡ fed limit whole 0 all
+  pub leaves : after_all limit s (taken limit s left) ≡ after_all limit whole (taken limit whole all)
+  pub bound : n + length left ≤ length all
 
-module _ {limit : ℕ} {whole : State} {file : List ℕ} {s : State} {rest : List ℕ} {n : ℕ} (g : Going limit whole file s rest n) where
+module _ {limit : ℕ} {whole : State} {all : List (List ℕ)} {s : State} {left : List (List ℕ)} {n : ℕ} (g : Going limit whole all s left n) where
   -- l is the next line, and t what it makes of s
-  module _ {l : List ℕ} {t : State} (some : 0 < length rest) (first : l ≡ first_of rest) (t_is : t ≡ line_after limit s l) where
-    split : lines rest ≡ l ∷ lines (later_of rest)
-    split = lines_split rest some ∙ ap (λ k. k ∷ lines (later_of rest)) (sym first)
-
-    pub going_more : {later : List ℕ} → later ≡ later_of rest → (e : Event) → line_answer limit s l ≡ Ok e
-        → Going limit whole file t later (n + 1)
-    going_more rest-is e h =
-        let ls = lines (later_of rest) in
-        rw (t_is, after_more limit s l ls e h, rest-is) (record {
-          answers = sym (fed_more limit s l ls e h n) ∙ ap (fed limit s n) (sym split) ∙ g.answers;
-          leaves = ap (after_all limit s) (sym (taken_more limit s l ls e h))
-              ∙ ap (λ k. after_all limit s (taken limit s k)) (sym split) ∙ g.leaves;
-          bound = omega (arith, g.bound, later_less rest some);
-        })
+  module _ {l : List ℕ} {later : List (List ℕ)} {t : State} (split : left ≡ l ∷ later) (t_is : t ≡ line_after limit s l) where
+    pub going_more : (e : Event) → line_answer limit s l ≡ Ok e → Going limit whole all t later (n + 1)
+    going_more e h = rw (t_is, after_more limit s l later e h) (record {
+      answers = sym (fed_more limit s l later e h n) ∙ ap (fed limit s n) (sym split) ∙ g.answers;
+      leaves = ap (after_all limit s) (sym (taken_more limit s l later e h))
+          ∙ ap (λ k. after_all limit s (taken limit s k)) (sym split) ∙ g.leaves;
+      bound = omega (arith, g.bound, ap length split);
+    })
 
     module _ (stop : Stop) (h : line_answer limit s l ≡ Err stop) where
-      pub going_fault : Err (at_line (n + 1) stop) ≡ fed limit whole 0 (lines file)
-      going_fault = sym (fed_stop limit s l (lines (later_of rest)) stop h n) ∙ ap (fed limit s n) (sym split) ∙ g.answers
+      pub going_fault : Err (at_line (n + 1) stop) ≡ fed limit whole 0 all
+      going_fault = sym (fed_stop limit s l later stop h n) ∙ ap (fed limit s n) (sym split) ∙ g.answers
 
-      pub going_left : t ≡ after_all limit whole (taken limit whole (lines file))
+      pub going_left : t ≡ after_all limit whole (taken limit whole all)
       going_left =
-          t_is ∙ after_stop limit s l (lines (later_of rest)) stop h
-          ∙ ap (after_all limit s) (sym (taken_stop limit s l (lines (later_of rest)) stop h))
+          t_is ∙ after_stop limit s l later stop h
+          ∙ ap (after_all limit s) (sym (taken_stop limit s l later stop h))
           ∙ ap (λ k. after_all limit s (taken limit s k)) (sym split) ∙ g.leaves
 
-  module _ (none : length rest ≡ 0) where
-    gone : rest ≡ []
-    gone = nil_from_length rest none
+  module _ (none : left ≡ []) where
+    pub going_end : Ok n ≡ fed limit whole 0 all
+    going_end = ap (fed limit s n) (sym none) ∙ g.answers
 
-    pub going_end : Ok n ≡ fed limit whole 0 (lines file)
-    going_end = ap (λ k. fed limit s n (lines k)) (sym gone) ∙ g.answers
+    pub going_all : s ≡ after_all limit whole (taken limit whole all)
+    going_all = ap (λ k. after_all limit s (taken limit s k)) (sym none) ∙ g.leaves
 
-    pub going_all : s ≡ after_all limit whole (taken limit whole (lines file))
-    going_all = ap (λ k. after_all limit s (taken limit s (lines k))) (sym gone) ∙ g.leaves
+pub going : (limit : ℕ) (s : State) (all : List (List ℕ)) → Going limit s all s all 0
+going limit s all = record { answers = refl; leaves = refl; bound = omega arith }
 
-pub going : (limit : ℕ) (s : State) (file : List ℕ) → Going limit s file s file 0
-going limit s file = record { answers = refl; leaves = refl; bound = omega arith }
+-- ---- what `map_err` makes of r
 
--- ---- the number of the line
+module _ {T E F : Type 0} (r : Result T E) {m : Result T F} (Q : E → F → Type 0) where
+  pub mapped_ok : (x : T) → MatchResult r (λ y. m ≡ Ok y) (λ e. IsErrAnd m (Q e)) → m ≡ Ok x → r ≡ Ok x
+  mapped_ok x h k = elim r as (λ r. MatchResult r (λ y. m ≡ Ok y) (λ e. IsErrAnd m (Q e)) → r ≡ Ok x) [
+    Ok y ↦ λ is. ap Ok (ok_same (sym is ∙ k))
+    | Err e ↦ λ is. absurd (ok_or_err k (err_from_is_err_and m is).1)
+  ] h
 
-pub numbered_ok : (n : ℕ) (r : Result Event Stop) (e : Event) → numbered n r ≡ Ok e → r ≡ Ok e
-numbered_ok n (Ok a) e h = h'
-  where
-    h' : ◌≡◌ {A = Result Event Stop} (Ok a) (Ok e)
-    h' = ap Ok (ok_same h)
-numbered_ok n (Err stop) e h = absurd (ok_or_err h refl)
-
-pub numbered_err : (n : ℕ) (r : Result Event Stop) (f : Fault) → numbered n r ≡ Err f
-    → (stop : Stop) × (r ≡ Err stop) × (f ≡ at_line n stop)
-numbered_err n (Ok a) f h = absurd (ok_or_err refl h)
-numbered_err n (Err stop) f h = (stop, refl, err_same (sym h))
+  pub mapped_err : (f : F) → MatchResult r (λ y. m ≡ Ok y) (λ e. IsErrAnd m (Q e)) → m ≡ Err f → (e : E) × (r ≡ Err e) × Q e f
+  mapped_err f h k =
+      elim r as (λ r. MatchResult r (λ y. m ≡ Ok y) (λ e. IsErrAnd m (Q e)) → (e : E) × (r ≡ Err e) × Q e f) [
+        Ok y ↦ λ is. absurd (ok_or_err is k)
+        | Err e ↦ λ is. let p = err_from_is_err_and m is in (e, refl, subst (Q e) (err_same (sym p.1 ∙ k)) p.2)
+      ] h

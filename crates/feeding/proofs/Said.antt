@@ -1,7 +1,6 @@
 -- A file is fed to its end exactly when it says events that are accepted in their turn.
 -- Assumes nothing.
-use Rattle.std.proofs.Common.{◌≡◌, ℕ, ◌+◌, ◌<◌, eqb, List, [], ◌∷◌, ◌++◌, map, length, Ok, Err, Result, sym, refl, ap, ◌∙◌, subst, inl, inr, ⊎_elim, add-zero, zero-add, arith}
-use Rattle.std.proofs.lemmas.Bool.{cond-true, cond-false, cases_Bool, eqb-true}
+use Rattle.std.proofs.Common.{◌≡◌, ℕ, ◌+◌, List, [], ◌∷◌, map, length, Ok, Err, Result, sym, refl, ap, ◌∙◌, subst, inl, inr, add-zero, zero-add, arith}
 use Rattle.rows.specs.declared.event.Event.{Event}
 use Rattle.text.specs.declared.fault.LineFault.{LineFault}
 use Rattle.text.specs.Lines.{text_of, reading}
@@ -13,46 +12,11 @@ use Rattle.rules.specs.States.{State, answer, after}
 use Rattle.feeding.specs.declared.fault.Stop.{Stop}
 use Rattle.feed.specs.Files.{file_of, AllSayable}
 use Rattle.feeding.specs.Files.{fed, taken, AllAccepted, Bad}
-use Rattle.feed.specs.Lines.{onto, lines}
+use Rattle.feed.specs.Lines.{lines}
 use Rattle.feeding.specs.Stops.{event_stop, unless_stopped, read_as, line_answer}
 use Rattle.feeding.proofs.Feeding.{fed_more, fed_stop, taken_more}
-use Rattle.feed.proofs.Splitting.{lines_split}
+use Rattle.feed.proofs.Said.{unlines, lines_joined, unlines_texts}
 use Rattle.feed.proofs.Texts.{Ended, lines_of_ended}
-
--- the lines, each with its newline
-abbrev unlines : List (List ℕ) → List ℕ
-unlines [] = []
-unlines (l ∷ ls) = l ++ (10 ∷ unlines ls)
-
-ended_on : (b : ℕ) {file whole : List ℕ} → Ended file whole → Ended (b ∷ file) (b ∷ whole)
-ended_on b (inl e) = inl (ap (λ t. b ∷ t) e)
-ended_on b (inr e) = inr (ap (λ t. b ∷ t) e)
-
-unlines_onto : (b : ℕ) (ls : List (List ℕ)) → 0 < length ls → unlines (onto b ls) ≡ b ∷ unlines ls
-unlines_onto b [] h = absurd (omega arith)
-unlines_onto b (l ∷ ls) h = refl
-
-lines_joined : (file : List ℕ) → Ended file (unlines (lines file))
-lines_joined [] = inl refl
-lines_joined (b ∷ []) =
-    ⊎_elim
-    (λ e. inl (ap (λ x. x ∷ []) (eqb-true b 10 e) ∙ sym (ap unlines (cond-true _ _ _ e))))
-    (λ e. inr (sym (ap unlines (cond-false _ _ _ e))))
-    (cases_Bool (eqb b 10))
-lines_joined (b ∷ c ∷ cs) = go (lines_joined (c ∷ cs))
-  where
-    go : Ended (c ∷ cs) (unlines (lines (c ∷ cs))) → Ended (b ∷ c ∷ cs) (unlines (lines (b ∷ c ∷ cs)))
-    go ih =
-        let more : 0 < length (lines (c ∷ cs)) = omega (arith, ap length (lines_split (c ∷ cs) (omega arith))) in
-        ⊎_elim
-        (λ e. rw (cond-true (eqb b 10) ([] ∷ lines (c ∷ cs)) (onto b (lines (c ∷ cs))) e, eqb-true b 10 e) (ended_on 10 ih))
-        (λ e. rw (cond-false (eqb b 10) ([] ∷ lines (c ∷ cs)) (onto b (lines (c ∷ cs))) e, unlines_onto b (lines (c ∷ cs)) more) (ended_on b ih))
-        (cases_Bool (eqb b 10))
-
--- the texts, each with its newline, are the file of the events
-unlines_texts : (es : List Event) → unlines (map text_of es) ≡ file_of es
-unlines_texts [] = refl
-unlines_texts (e ∷ es) = ap (λ t. text_of e ++ (10 ∷ t)) (unlines_texts es)
 
 module _ (limit : ℕ) (s : State) where
   -- a line is taken exactly when it says an event that is accepted

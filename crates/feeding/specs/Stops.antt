@@ -40,7 +40,3 @@ line_answer limit s l = read_as limit s (reading l)
 -- What the line makes of rows, edge list and order.
 abbrev pub line_after : ℕ → State → List ℕ → State
 line_after limit s l = elim (line_answer limit s l) [ Ok e ↦ after limit s e | Err stop ↦ s ]
-
-abbrev pub numbered : ℕ → Result Event Stop → Result Event Fault
-numbered n (Ok e) = Ok e
-numbered n (Err stop) = Err (at_line n stop)

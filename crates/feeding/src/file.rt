@@ -1,5 +1,5 @@
 // Feeding a whole file.
-ghost use Rattle.std.specs.Prelude.{◌≡◌, ◌≤◌, length, Err, ◌≢◌, nat_le};
+ghost use Rattle.std.specs.Prelude.{◌≡◌, ◌≤◌, length, Err, ◌≢◌};
 ghost use Rattle.order.specs.declared.cause.OrderCause.TheVariants.{End};
 ghost use Rattle.rules.specs.States.{after_all};
 ghost use Rattle.ledger.specs.Ledgers.{state_with};
@@ -7,26 +7,16 @@ ghost use Rattle.recording.specs.Recording.{Recording, followed};
 ghost use Rattle.rules.specs.Behind.{Behind};
 ghost use Rattle.feeding.specs.Files.{fed, taken, file_answer, events_taken, after_file, Feeds};
 ghost use Rattle.feed.specs.Lines.{lines};
-ghost use Rattle.feeding.specs.Stops.{line_answer, line_after, numbered};
+ghost use Rattle.feeding.specs.Stops.{line_answer, line_after};
 ghost use Rattle.feed.specs.declared.fault.Cause.TheVariants.{Order};
 
 use crate::fault::Stop;
-use feed::{Cause, Fault, first_line};
+use feed::{Fault, LONGEST, Lines};
 use ledger::Ledger;
 use order::SegmentOrder;
 use rows::{Edge, Event};
 use sorted_list::SortedList;
-use text::{TextCause, read_line};
-
-// The most bytes that a recording may have.
-const LONGEST: usize = 60_000;
-
-// A file of this length is no longer than a recording may be.
-fn fits(length: usize) -> bool
-    ensures { result ≡ nat_le length 60000 }
-{
-    length <= LONGEST
-}
+use text::read_line;
 
 // Reads a line, and then gives its event to the ledger.
 fn take_line<O: SegmentOrder>(
@@ -44,15 +34,6 @@ fn take_line<O: SegmentOrder>(
     Ok(event)
 }
 
-fn at_line(line: u32, taken: Result<Event, Stop>) -> Result<Event, Fault>
-    ensures { result ≡ numbered line taken }
-{
-    match taken {
-        Ok(event) => Ok(event),
-        Err(stop) => Err(stop.at_line(line)),
-    }
-}
-
 // Takes every line, up to the first fault, and answers how many there are.
 fn feed_lines<O: SegmentOrder>(
     ledger: &mut Ledger,
@@ -65,13 +46,10 @@ fn feed_lines<O: SegmentOrder>(
     ensures leaves { state_with ledger.new edges.new (O.meaning order.new) ≡ after_all O.limit (state_with ledger.old edges.old (O.meaning order.old)) (taken O.limit (state_with ledger.old edges.old (O.meaning order.old)) (lines file.now)) }
     ensures lent { edges.new.places.ghost_name ≡ edges.old.places.ghost_name }
 {
-    let mut rest = file;
     let mut line: u32 = 0;
-    while !rest.is_empty() {
-        let (bytes, later) = first_line(rest);
+    for bytes in Lines::of(file) {
         line += 1;
-        at_line(line, take_line(ledger, edges, order, bytes))?;
-        rest = later;
+        take_line(ledger, edges, order, bytes).map_err(|stop| stop.at_line(line))?;
     }
     Ok(line)
 }
@@ -87,12 +65,8 @@ fn feed_file<O: SegmentOrder>(
     ensures leaves { state_with ledger.new edges.new (O.meaning order.new) ≡ after_file O.limit (state_with ledger.old edges.old (O.meaning order.old)) file.now }
     ensures lent { edges.new.places.ghost_name ≡ edges.old.places.ghost_name }
 {
-    if !fits(file.len()) {
-        return Err(Fault {
-            line: 0,
-            column: 0,
-            cause: Cause::Text(TextCause::Size),
-        });
+    if file.len() > LONGEST {
+        return Err(Fault::TOO_LONG);
     }
     feed_lines(ledger, edges, order, file)
 }
