@@ -1,4 +1,4 @@
+mod Factors
 mod Fractions
-mod Room
+mod Pieces
 mod Rounding
-mod Writers

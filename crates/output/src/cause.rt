@@ -2,22 +2,19 @@
 ghost use Rattle.std.specs.Prelude.{◌≡◌};
 ghost use Rattle.output.specs.Causes.{cause_number};
 
-// Why the output layer turns a call down.
+// Why the output layer turns a call down, with the number of the cause.
 #[derive(Clone, Copy, PartialEq, Eq, Debug)]
 pub enum OutputCause {
     // a number outside the range for odds
-    Odds,
+    Odds = 18,
     // the memory for the line is too short
-    Memory,
+    Memory = 19,
 }
 
 impl OutputCause {
     pub fn number(&self) -> u32
         ensures { result ≡ cause_number self.now }
     {
-        match self {
-            OutputCause::Odds => 18,
-            OutputCause::Memory => 19,
-        }
+        *self as u32
     }
 }

@@ -12,11 +12,7 @@ fn factorial(k: u32) -> u64
     requires { k ≤ 15 }
     ensures { result ≡ factorial k }
 {
-    let mut product = 1;
-    for i in 0..k {
-        product *= i as u64 + 1;
-    }
-    product
+    (1..=u64::from(k)).product()
 }
 
 // above / below, rounded down.
@@ -33,12 +29,12 @@ fn round(above: u64, below: u64) -> u32
 pub fn odds(k: u32, n: u32) -> Result<u32, OutputCause>
     ensures { result ≡ odds_of k n }
 {
-    if k < 2 || k > 64 || n < 1 || n > 8 {
-        return Err(OutputCause::Odds);
+    match (k, n) {
+        (2..=LAST, 1..=8) => {
+            let power = u64::from(k).pow(k);
+            Ok(round(10_000 * factorial(k), u64::from(n) * power))
+        }
+        (2..=64, 1..=8) => Ok(0),
+        _ => Err(OutputCause::Odds),
     }
-    if k > LAST {
-        return Ok(0);
-    }
-    let below = n as u64 * (k as u64).pow(k);
-    Ok(round(10_000 * factorial(k), below))
 }

@@ -1,36 +1,24 @@
 // The line for a fault: `line 3 column 1 layer ledger cause 5`.
-ghost use Rattle.std.specs.Prelude.{◌≡◌, ◌+◌, ◌≤◌, length, IfOk};
-ghost use Rattle.output.specs.Lines.{Puts, answer, memory_after, fault_text, layer_text};
+ghost use Rattle.std.specs.Prelude.{◌≡◌, ◌≤◌, length, IfOk, Ok};
+ghost use Rattle.output.specs.Lines.{answer, memory_after};
+ghost use Rattle.output.specs.Texts.{fault_text};
 
 use crate::OutputCause;
-use crate::line::{LINE_MEMORY, put, put_labelled, zero_rest};
-use feed::{Cause, Fault};
-
-// The word for the layer, which has at most six letters.
-fn put_layer(line: &mut [u8], at: usize, cause: &Cause) -> usize
-    requires { at + 13 ≤ length line.old }
-    ensures text { Puts (layer_text cause.now) line.old at result line.new }
-    ensures short { result ≤ at + 13 }
-{
-    let at = put(line, at, b" layer ");
-    put(line, at, cause.layer().as_bytes())
-}
+use crate::line::{Text, put_labelled, put_line};
+use feed::Fault;
 
 // Writes the line with its newline, and zeros behind it, and answers its length.
 // Memory of less than LINE_MEMORY bytes is left as it was.
 pub fn fault_line(fault: &Fault, line: &mut [u8]) -> Result<usize, OutputCause>
-    ensures answer { result ≡ answer (fault_text fault.now) line.old }
-    ensures memory { line.new ≡ memory_after (fault_text fault.now) line.old }
+    ensures answer { result ≡ answer (Ok (fault_text fault.now)) line.old }
+    ensures memory { line.new ≡ memory_after (Ok (fault_text fault.now)) line.old }
     ensures within { IfOk result (λ n. n ≤ length line.old) }
 {
-    if line.len() < LINE_MEMORY {
-        return Err(OutputCause::Memory);
-    }
-    let at = put_labelled(line, 0, b"line ", fault.line);
-    let at = put_labelled(line, at, b" column ", fault.column);
-    let at = put_layer(line, at, &fault.cause);
-    let at = put_labelled(line, at, b" cause ", fault.cause.number());
-    let end = put(line, at, b"\n");
-    zero_rest(line, end);
-    Ok(end)
+    let mut text = Text::new();
+    put_labelled(&mut text, "line ", fault.line);
+    put_labelled(&mut text, " column ", fault.column);
+    text.push_str(" layer ");
+    text.push_str(fault.cause.layer());
+    put_labelled(&mut text, " cause ", fault.cause.number());
+    put_line(text, line)
 }

@@ -1,46 +1,41 @@
-// Writers of one line into lent memory. Each writes from the place `at` on, and answers the place behind what it wrote.
-ghost use Rattle.std.specs.Prelude.{◌≡◌, ◌+◌, ◌-◌, ◌≤◌, ◌++◌, length, take, replicate, decimal};
-ghost use Rattle.output.specs.Lines.{Puts, labelled};
+// The text of one line, which grows in memory of its own until it is whole, and is then laid into lent memory.
+ghost use Rattle.std.specs.Prelude.{◌≡◌, ◌+◌, ◌<◌, ◌≤◌, ◌++◌, length, IfOk, Ok};
+ghost use Rattle.arrayvec.specs.ArrayString.{array_string_len};
+ghost use Rattle.output.specs.Lines.{answer, memory_after};
+ghost use Rattle.output.specs.Texts.{ended};
 
-// The least memory for a line, in bytes.
+use crate::OutputCause;
+use arrayvec::ArrayString;
+use itoa::{Buffer, Integer};
+
+// The least memory for a line, in bytes. No line is longer.
 pub(crate) const LINE_MEMORY: usize = 1024;
 
-// The bytes as they are.
-pub(crate) fn put(line: &mut [u8], at: usize, bytes: &[u8]) -> usize
-    requires { at + length bytes.now ≤ length line.old }
-    ensures { Puts bytes.now line.old at result line.new }
+pub(crate) type Text = ArrayString<LINE_MEMORY>;
+
+// A label and a number.
+pub(crate) fn put_labelled<I: Integer>(text: &mut Text, label: &str, n: I)
+    requires { array_string_len text.old + (length label.now + I.MAX_STR_LEN) ≤ 1024 }
+    ensures text { text.new.bytes ≡ text.old.bytes ++ label.now ++ I.text n }
+    ensures short { array_string_len text.new ≤ array_string_len text.old + (length label.now + I.MAX_STR_LEN) }
 {
-    let end = at + bytes.len();
-    line[at..end].copy_from_slice(bytes);
-    end
+    text.push_str(label);
+    text.push_str(Buffer::new().format(n));
 }
 
-// The digits of n, the front ones first.
-pub(crate) fn put_decimal(line: &mut [u8], at: usize, n: u32) -> usize
-    requires { at + length (decimal n) ≤ length line.old }
-    ensures { Puts (decimal n) line.old at result line.new }
+// The newline behind the text, and zeros behind that, up to the end of the memory.
+pub(crate) fn put_line(mut text: Text, line: &mut [u8]) -> Result<usize, OutputCause>
+    requires { array_string_len text < 1024 }
+    ensures answer { result ≡ answer (Ok (ended text.bytes)) line.old }
+    ensures memory { line.new ≡ memory_after (Ok (ended text.bytes)) line.old }
+    ensures within { IfOk result (λ end. end ≤ length line.old) }
 {
-    if n < 10 {
-        return put(line, at, &[b'0' + n as u8]);
+    if line.len() < LINE_MEMORY {
+        return Err(OutputCause::Memory);
     }
-    let last = put_decimal(line, at, n / 10);
-    put(line, last, &[b'0' + (n % 10) as u8])
-}
-
-// A label and a number, which has at most ten digits.
-pub(crate) fn put_labelled(line: &mut [u8], at: usize, label: &[u8], n: u32) -> usize
-    requires { at + (length label.now + 10) ≤ length line.old }
-    ensures text { Puts (labelled label.now n) line.old at result line.new }
-    ensures short { result ≤ at + (length label.now + 10) }
-{
-    let at = put(line, at, label);
-    put_decimal(line, at, n)
-}
-
-// Zeros up to the end of the memory.
-pub(crate) fn zero_rest(line: &mut [u8], at: usize)
-    requires { at ≤ length line.old }
-    ensures { line.new ≡ take at line.old ++ replicate (length line.old - at) 0 }
-{
-    line[at..].fill(0);
+    text.push_str("\n");
+    let end = text.len();
+    line[..end].copy_from_slice(text.as_str().as_bytes());
+    line[end..].fill(0);
+    Ok(end)
 }

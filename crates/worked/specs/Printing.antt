@@ -7,13 +7,8 @@ use Rattle.rows.specs.declared.row.CircleRow.{CircleRow}
 use Rattle.recording.specs.declared.answer.Answer.{Answer}
 use Rattle.feed.specs.declared.fault.Fault.{Fault}
 use Rattle.file_check.specs.Checks.{checked, circles_after}
-use Rattle.printing.specs.Texts.{steps_text, count_text, fault_text}
+use Rattle.output.specs.Texts.{steps_text, count_text, fault_text, line_or_none}
 use Rattle.output.specs.declared.cause.OutputCause.{OutputCause}
-
--- A circle that has no odds has no line.
-abbrev pub line_or_none : Result (List ℕ) OutputCause → List ℕ
-line_or_none (Ok text) = text
-line_or_none (Err cause) = []
 
 -- A line for each circle, with its odds at n.
 abbrev pub circle_lines : List CircleRow → ℕ → List ℕ
