@@ -1,13 +1,23 @@
 -- The locks of a row: taken one by one, given up, at most 64.
 -- Assumes nothing.
 use Rattle.std.proofs.Common.{◌≡◌, ℕ, ◌<◌, ◌≤◌, Bool, true, false, not, ◌&&◌, ◌||◌, eqb, leb, List, [], ◌∷◌, ◌++◌, length, filter, sym, refl, ap, ◌∙◌, arith}
-use Rattle.std.specs.List.{AllByRecursion}
+use Rattle.std.specs.List.{AllByRecursion, list_any}
 use Rattle.std.proofs.ByRecursion.{All-weaker}
 use Rattle.std.proofs.lemmas.Bool.{and_parts, and_from, or_parts, or_from, not-true, not_from_false, cond_both, leb-true, le-leb, eqb-false, ne_eqb}
 use Rattle.recording.specs.Chains.{Pairwise}
 use Rattle.recording.proofs.Distinct.{few}
-use Rattle.rules.specs.Rows.{has}
+use Rattle.rules.specs.Rows.{ThreadRow, has, holds, held_by_some}
 use Rattle.ledger.specs.Rows.{tidy}
+
+-- ---- what a search answers
+
+pub any_has : (xs : List ℕ) (l : ℕ) → list_any (λ x. eqb x l) xs ≡ has xs l
+any_has [] l = refl
+any_has (x ∷ xs) l = ap (λ b. eqb x l || b) (any_has xs l)
+
+pub any_held : (rows : List ThreadRow) (l : ℕ) → list_any (λ r. holds r l) rows ≡ held_by_some rows l
+any_held [] l = refl
+any_held (r ∷ rows) l = ap (λ b. holds r l || b) (any_held rows l)
 
 -- ---- one more lock
 
@@ -46,6 +56,9 @@ tidy_push (x ∷ xs) o h new low =
     (tidy_push xs o p.2 q.1 low)
 
 -- ---- fewer locks
+
+abbrev pub is_other : ℕ → ℕ → Bool
+is_other l x = not (eqb x l)
 
 pub has_kept : (test : ℕ → Bool) (xs : List ℕ) (l : ℕ) → has xs l ≡ false → has (filter test xs) l ≡ false
 has_kept test [] l h = refl

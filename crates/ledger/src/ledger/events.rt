@@ -25,9 +25,9 @@ impl Ledger {
             ≡ lock_edges (rows_of self.old) (held edges.old) t o }
         ensures lent { edges.new.places.ghost_name ≡ edges.old.places.ghost_name }
     {
-        self.check_lock(edges, t, o)?;
-        self.row(t).draw(edges, t, o);
-        self.push(t, o);
+        let (t, o) = self.check_lock(edges, t, o)?;
+        self.table.row(t).draw(edges, t, o);
+        self.table.push(t, o);
         Ok(())
     }
 
@@ -35,8 +35,8 @@ impl Ledger {
         ensures answers { result ≡ release_answer (rows_of self.old) t o }
         ensures rows { rows_of self.new ≡ release_rows (rows_of self.old) t o }
     {
-        self.check_release(t, o)?;
-        self.remove(t, o);
+        let (t, o) = self.check_release(t, o)?;
+        self.table.remove(t, o);
         Ok(())
     }
 
@@ -52,9 +52,9 @@ impl Ledger {
         ensures means { O.meaning order.new
             ≡ start_order O.limit (rows_of self.old) (O.meaning order.old) t u }
     {
-        self.check_start(t, u)?;
-        let n = order.fork(self.row(t).segment)?;
-        self.split(t, u, n);
+        let (t, u) = self.check_start(t, u)?;
+        let n = order.fork(self.table.row(t).segment())?;
+        self.table.split(t, u, n);
         Ok(())
     }
 
@@ -70,9 +70,9 @@ impl Ledger {
         ensures means { O.meaning order.new
             ≡ join_order O.limit (rows_of self.old) (O.meaning order.old) t u }
     {
-        self.check_join(t, u)?;
-        let n = order.meet(self.row(t).segment, self.row(u).segment)?;
-        self.unite(t, u, n);
+        let (t, u) = self.check_join(t, u)?;
+        let n = order.meet(self.table.row(t).segment(), self.table.row(u).segment())?;
+        self.table.unite(t, u, n);
         Ok(())
     }
 

@@ -1,6 +1,6 @@
 use Rattle.std.proofs.Common.{arith, length-drop}
 use Rattle.std.proofs.lemmas.List.{length-take-le}
-use Rattle.ledger.proofs.ledger.reads.free_places.Goals as goal
+use Rattle.ledger.proofs.ledger.checks.free_places.Goals as goal
 
 pub returns : goal.returns
 returns c =
