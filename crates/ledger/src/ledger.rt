@@ -3,7 +3,6 @@ use crate::table::Table;
 
 mod calls;
 mod checks;
-mod events;
 mod questions;
 
 // What is kept of the threads 0 to 63.

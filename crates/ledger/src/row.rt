@@ -1,8 +1,8 @@
 // The row of one thread.
 ghost use Rattle.std.specs.Prelude.{◌≡◌, false, slice_get};
 ghost use Rattle.recording.specs.Ledger.{live, joined};
-ghost use Rattle.rules.specs.Rows.{unborn_row, is_live, is_unborn, holds as row_holds, with_locks, taken, given_up, in_segment, in_state};
-ghost use Rattle.ledger.specs.Rows.{state_code};
+ghost use Rattle.rules.specs.Rows.{is_live, is_unborn, holds as row_holds, with_locks, taken, given_up, in_segment, in_state};
+ghost use Rattle.ledger.specs.Rows.{state_code, thread_row, unstarted};
 
 use crate::index::Index;
 use arrayvec::ArrayVec;
@@ -35,7 +35,7 @@ impl Model for Row {
 impl Row {
     // A thread that was not yet started.
     pub(crate) fn unborn() -> Row
-        ensures { result ≡ unborn_row }
+        ensures { result ≡ thread_row unstarted }
     {
         Row {
             state: Life::Unborn,
