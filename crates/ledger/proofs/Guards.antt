@@ -12,8 +12,11 @@ use Rattle.rows.specs.Edges.{In}
 use Rattle.recording.specs.EdgeList.{gather}
 use Rattle.recording.proofs.Bitsets.{gather_small, in_gather, gather_in, same_bits}
 use Rattle.rules.specs.Rows.{has}
-use Rattle.ledger.specs.Rows.{with_lock}
 use Rattle.ledger.proofs.Locks.{has_push}
+
+-- The set with the lock in it.
+abbrev pub with_lock : ℕ → ℕ → ℕ
+with_lock locks l = bit_or locks (2 ^ l)
 
 in_below : (n a k : ℕ) → a < 2 ^ n → In k a → k < n
 in_below n a k small h = elim (cases_lt k n) [ inl l ↦ l | inr g ↦ absurd (far g) ]

@@ -1,37 +1,19 @@
 -- The locks of a row: taken one by one, given up, at most 64.
 -- Assumes nothing.
-use Rattle.std.proofs.Common.{◌≡◌, ℕ, ◌<◌, ◌≤◌, Bool, true, false, not, ◌&&◌, ◌||◌, eqb, leb, List, [], ◌∷◌, ◌++◌, length, filter, sym, refl, ap, ◌∙◌, arith}
-use Rattle.std.specs.List.{AllByRecursion, list_any}
+use Rattle.std.proofs.Common.{◌≡◌, ℕ, ◌<◌, ◌≤◌, Bool, true, false, not, ◌&&◌, ◌||◌, eqb, leb, List, [], ◌∷◌, ◌++◌, length, filter, sym, refl, ◌∙◌, arith}
+use Rattle.std.specs.List.{AllByRecursion}
 use Rattle.std.proofs.ByRecursion.{All-weaker}
 use Rattle.std.proofs.lemmas.Bool.{and_parts, and_from, or_parts, or_from, not-true, not_from_false, cond_both, leb-true, le-leb, eqb-false, ne_eqb}
+use Rattle.std.proofs.lemmas.List.Recursion.{or_push}
 use Rattle.recording.specs.Chains.{Pairwise}
 use Rattle.recording.proofs.Distinct.{few}
-use Rattle.rules.specs.Rows.{ThreadRow, has, holds, held_by_some}
+use Rattle.rules.specs.Rows.{has}
 use Rattle.ledger.specs.Rows.{tidy}
-
--- ---- what a search answers
-
-pub any_has : (xs : List ℕ) (l : ℕ) → list_any (λ x. eqb x l) xs ≡ has xs l
-any_has [] l = refl
-any_has (x ∷ xs) l = ap (λ b. eqb x l || b) (any_has xs l)
-
-pub any_held : (rows : List ThreadRow) (l : ℕ) → list_any (λ r. holds r l) rows ≡ held_by_some rows l
-any_held [] l = refl
-any_held (r ∷ rows) l = ap (λ b. holds r l || b) (any_held rows l)
 
 -- ---- one more lock
 
-or_none : (b : Bool) → b ≡ (b || false)
-or_none true = refl
-or_none false = refl
-
-or_group : (a b c : Bool) → (a || (b || c)) ≡ ((a || b) || c)
-or_group true b c = refl
-or_group false b c = refl
-
 pub has_push : (xs : List ℕ) (o l : ℕ) → has (xs ++ o ∷ []) l ≡ (has xs l || eqb o l)
-has_push [] o l = sym (or_none (eqb o l))
-has_push (x ∷ xs) o l = ap (λ b. eqb x l || b) (has_push xs o l) ∙ or_group (eqb x l) (has xs l) (eqb o l)
+has_push xs o l = or_push (λ ls. has ls l) (λ x. eqb x l) refl (λ _ _. refl) xs o
 
 -- what tidy says of the first lock and of the others
 first : (x : ℕ) (xs : List ℕ) → tidy (x ∷ xs) ≡ true → (x ≤ 63) × (has xs x ≡ false) × (tidy xs ≡ true)

@@ -1,6 +1,6 @@
 -- What a row says of its thread, and what every row keeps.
 -- Assumes nothing.
-use Rattle.std.specs.Prelude.{ℕ, ◌^◌, Bool, true, not, ◌&&◌, List, [], ◌∷◌, bit_or, nat_le}
+use Rattle.std.specs.Prelude.{ℕ, Bool, true, not, ◌&&◌, List, [], ◌∷◌, nat_le}
 use Rattle.rows.specs.declared.life.Life.{Life as LifeCode}
 use Rattle.rows.specs.declared.life.Life.TheVariants.{Unborn, Live, Joined}
 use Rattle.recording.specs.Ledger.{Life, unborn, live, joined}
@@ -18,6 +18,7 @@ state_code unborn = Unborn
 state_code live = Live
 state_code joined = Joined
 
+-- What the fields of a row say of its thread.
 abbrev pub thread_row : Inside → ThreadRow
 thread_row r = record { state = state_said r.state; segment = r.segment; locks = r.locks.items }
 
@@ -29,7 +30,3 @@ unstarted = record { state = Unborn; segment = 0; locks = record { items = [] } 
 abbrev pub tidy : List ℕ → Bool
 tidy [] = true
 tidy (l ∷ ls) = nat_le l 63 && (not (has ls l) && tidy ls)
-
--- The set with the lock in it.
-abbrev pub with_lock : ℕ → ℕ → ℕ
-with_lock locks l = bit_or locks (2 ^ l)

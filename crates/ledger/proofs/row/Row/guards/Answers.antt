@@ -3,8 +3,7 @@ use Rattle.std.proofs.lemmas.Iterator.{YieldsList-from_slice}
 use Rattle.std.proofs.lemmas.Iterator.Consumers.{fold_from_yields_List}
 use Rattle.recording.specs.EdgeList.{gather}
 use Rattle.rules.specs.Rows.{ThreadRow, holds}
-use Rattle.ledger.specs.Rows.{with_lock}
-use Rattle.ledger.proofs.Guards.{folded_gather}
+use Rattle.ledger.proofs.Guards.{with_lock, folded_gather}
 use Rattle.ledger.proofs.Locks.{tidy_small}
 use Rattle.ledger.proofs.row.Row.guards.Goals as goal
 
