@@ -75,6 +75,7 @@ impl Row {
         Some(self.locks.get(place)?.get())
     }
 
+    // Whether the thread holds the lock. A question may name any number.
     pub(crate) fn holds(&self, lock: u16) -> bool
         ensures { result ≡ row_holds self.now lock }
     {
