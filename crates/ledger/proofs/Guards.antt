@@ -1,10 +1,10 @@
 -- The set of the held locks, one lock after another.
 -- Assumes nothing.
-use Rattle.std.proofs.Common.{◌≡◌, ℕ, ◌+◌, ◌/◌, ◌%◌, ◌^◌, ◌<◌, ◌≤◌, Bool, eqb, List, [], ◌∷◌, ◌++◌, length, get_or, take, sym, ap, ◌∙◌, inl, inr, arith, pow_mono}
+use Rattle.std.proofs.Common.{◌≡◌, ℕ, ◌/◌, ◌%◌, ◌^◌, ◌<◌, ◌≤◌, Bool, eqb, List, [], ◌∷◌, ◌++◌, fold, sym, ap, ◌∙◌, inl, inr, arith, pow_mono, append-nil, append_assoc}
 use native.Mathlib.Nat.{div-eq_of_lt}
 use lib.Bits.{bit_or}
+use Rattle.std.specs.List.{AllByRecursion}
 use Rattle.std.proofs.lemmas.Nat.{or_lt, pow_below}
-use Rattle.std.proofs.lemmas.List.{take_more}
 use Rattle.std.proofs.lemmas.Bool.{cases_lt, or_cases, or_left, or_right, eqb-true, eq-eqb}
 use Rattle.order.specs.Bits.{bit}
 use Rattle.order.proofs.Words.{or_bit, power_bit}
@@ -12,8 +12,11 @@ use Rattle.rows.specs.Edges.{In}
 use Rattle.recording.specs.EdgeList.{gather}
 use Rattle.recording.proofs.Bitsets.{gather_small, in_gather, gather_in, same_bits}
 use Rattle.rules.specs.Rows.{has}
-use Rattle.ledger.specs.Rows.{with_lock}
 use Rattle.ledger.proofs.Locks.{has_push}
+
+-- The set with the lock in it.
+abbrev pub with_lock : ℕ → ℕ → ℕ
+with_lock locks l = bit_or locks (2 ^ l)
 
 in_below : (n a k : ℕ) → a < 2 ^ n → In k a → k < n
 in_below n a k small h = elim (cases_lt k n) [ inl l ↦ l | inr g ↦ absurd (far g) ]
@@ -64,9 +67,12 @@ module _ (n : ℕ) (xs : List ℕ) (l : ℕ) (low : l < n) where
       same_bits n (gather grown n) (with_lock before l) (gather_small n grown)
       (or_lt n before (2 ^ l) (gather_small n (has xs)) (pow_below l n low)) to from
 
--- A turn of the loop.
-pub gather_more : (n : ℕ) (xs : List ℕ) (i set : ℕ) → i < length xs → get_or xs i 0 < n → set ≡ gather (has (take i xs)) n
-    → with_lock set (get_or xs i 0) ≡ gather (has (take (i + 1) xs)) n
-gather_more n xs i set low small e =
-    ap (λ w. with_lock w (get_or xs i 0)) e ∙ sym (gather_push n (take i xs) (get_or xs i 0) small)
-    ∙ ap (λ ys. gather (has ys) n) (sym (take_more xs i 0 low))
+folded : (ys xs : List ℕ) → AllByRecursion (λ l. l ≤ 63) xs
+    → fold with_lock (gather (has ys) 64) xs ≡ gather (has (ys ++ xs)) 64
+folded ys [] small = ap (λ zs. gather (has zs) 64) (sym (append-nil ys))
+folded ys (x ∷ xs) small =
+    ap (λ set. fold with_lock set xs) (sym (gather_push 64 ys x (omega (arith, small.0))))
+    ∙ folded (ys ++ x ∷ []) xs small.1 ∙ ap (λ zs. gather (has zs) 64) (append_assoc ys (x ∷ []) xs)
+
+pub folded_gather : (xs : List ℕ) → AllByRecursion (λ l. l ≤ 63) xs → fold with_lock 0 xs ≡ gather (has xs) 64
+folded_gather xs small = folded [] xs small

@@ -1,9 +1,10 @@
 -- The locks of a row: taken one by one, given up, at most 64.
 -- Assumes nothing.
-use Rattle.std.proofs.Common.{◌≡◌, ℕ, ◌<◌, ◌≤◌, Bool, true, false, not, ◌&&◌, ◌||◌, eqb, leb, List, [], ◌∷◌, ◌++◌, length, filter, sym, refl, ap, ◌∙◌, arith}
+use Rattle.std.proofs.Common.{◌≡◌, ℕ, ◌<◌, ◌≤◌, Bool, true, false, not, ◌&&◌, ◌||◌, eqb, leb, List, [], ◌∷◌, ◌++◌, length, filter, sym, refl, ◌∙◌, arith}
 use Rattle.std.specs.List.{AllByRecursion}
 use Rattle.std.proofs.ByRecursion.{All-weaker}
 use Rattle.std.proofs.lemmas.Bool.{and_parts, and_from, or_parts, or_from, not-true, not_from_false, cond_both, leb-true, le-leb, eqb-false, ne_eqb}
+use Rattle.std.proofs.lemmas.List.Recursion.{or_push}
 use Rattle.recording.specs.Chains.{Pairwise}
 use Rattle.recording.proofs.Distinct.{few}
 use Rattle.rules.specs.Rows.{has}
@@ -11,17 +12,8 @@ use Rattle.ledger.specs.Rows.{tidy}
 
 -- ---- one more lock
 
-or_none : (b : Bool) → b ≡ (b || false)
-or_none true = refl
-or_none false = refl
-
-or_group : (a b c : Bool) → (a || (b || c)) ≡ ((a || b) || c)
-or_group true b c = refl
-or_group false b c = refl
-
 pub has_push : (xs : List ℕ) (o l : ℕ) → has (xs ++ o ∷ []) l ≡ (has xs l || eqb o l)
-has_push [] o l = sym (or_none (eqb o l))
-has_push (x ∷ xs) o l = ap (λ b. eqb x l || b) (has_push xs o l) ∙ or_group (eqb x l) (has xs l) (eqb o l)
+has_push xs o l = or_push (λ ls. has ls l) (λ x. eqb x l) refl (λ _ _. refl) xs o
 
 -- what tidy says of the first lock and of the others
 first : (x : ℕ) (xs : List ℕ) → tidy (x ∷ xs) ≡ true → (x ≤ 63) × (has xs x ≡ false) × (tidy xs ≡ true)
@@ -46,6 +38,9 @@ tidy_push (x ∷ xs) o h new low =
     (tidy_push xs o p.2 q.1 low)
 
 -- ---- fewer locks
+
+abbrev pub is_other : ℕ → ℕ → Bool
+is_other l x = not (eqb x l)
 
 pub has_kept : (test : ℕ → Bool) (xs : List ℕ) (l : ℕ) → has xs l ≡ false → has (filter test xs) l ≡ false
 has_kept test [] l h = refl

@@ -1,4 +1,5 @@
 pub mod Rows
 pub mod Tables
+pub mod Checks
 pub mod Ledgers
 pub mod Recorded

@@ -1,11 +1,11 @@
 -- What a row says of its thread, and what every row keeps.
 -- Assumes nothing.
-use Rattle.std.specs.Prelude.{ℕ, ◌+◌, ◌^◌, Bool, true, not, ◌&&◌, List, [], ◌∷◌, take, replicate, bit_or, nat_le, slice_set}
+use Rattle.std.specs.Prelude.{ℕ, Bool, true, not, ◌&&◌, List, [], ◌∷◌, nat_le}
 use Rattle.rows.specs.declared.life.Life.{Life as LifeCode}
 use Rattle.rows.specs.declared.life.Life.TheVariants.{Unborn, Live, Joined}
 use Rattle.recording.specs.Ledger.{Life, unborn, live, joined}
 use Rattle.rules.specs.Rows.{ThreadRow, has}
-use Rattle.ledger.specs.declared.row.Row.{Row}
+use Rattle.ledger.specs.declared.row.Row.TheInside.{Inside}
 
 -- A thread's state, in the words of recordings, and back.
 abbrev pub state_said : LifeCode → Life
@@ -18,23 +18,15 @@ state_code unborn = Unborn
 state_code live = Live
 state_code joined = Joined
 
--- The locks that are held are the counted front of the array.
-abbrev pub thread_row : Row → ThreadRow
-thread_row r = record { state = state_said r.state; segment = r.segment; locks = take r.count r.locks }
+-- What the fields of a row say of its thread.
+abbrev pub thread_row : Inside → ThreadRow
+thread_row r = record { state = state_said r.state; segment = r.segment; locks = r.locks.items }
 
 -- The row of a thread that was not yet started.
-abbrev pub unstarted : Row
-unstarted = record { state = Unborn; segment = 0; locks = replicate 64 0; count = 0 }
+abbrev pub unstarted : Inside
+unstarted = record { state = Unborn; segment = 0; locks = record { items = [] } }
 
 -- The locks are at most 63, and none is there twice.
 abbrev pub tidy : List ℕ → Bool
 tidy [] = true
 tidy (l ∷ ls) = nat_le l 63 && (not (has ls l) && tidy ls)
-
--- The row with one more lock.
-abbrev pub pushed : Row → ℕ → Row
-pushed r l = record { state = r.state; segment = r.segment; locks = slice_set r.locks r.count l; count = r.count + 1 }
-
--- The set with the lock in it.
-abbrev pub with_lock : ℕ → ℕ → ℕ
-with_lock locks l = bit_or locks (2 ^ l)

@@ -1,11 +1,12 @@
 // The rows of all threads.
-ghost use Rattle.std.specs.Prelude.{◌≡◌, ℕ, ◌≤◌, false, map, replicate, slice_index_or};
+ghost use Rattle.std.specs.Prelude.{◌≡◌, ◌+◌, ◌<◌, false};
 ghost use Rattle.recording.specs.Ledger.{live, joined};
-ghost use Rattle.rules.specs.Rows.{fresh_rows, holds, held_by_some, with_locks, taken, given_up, in_segment, in_state};
-ghost use Rattle.ledger.specs.Rows.{thread_row, unstarted};
-ghost use Rattle.ledger.specs.Tables.{table_rows, no_row, row_in, Counted, Tidy, Changed};
+ghost use Rattle.rules.specs.Rows.{fresh_rows, row_at, holds, held_by_some, took, gave_up, in_segment, in_state};
+ghost use Rattle.ledger.specs.Tables.{table_rows, changed};
 
+use crate::index::Index;
 use crate::row::Row;
+use std::array;
 
 // A row for each thread.
 #[derive(Drop)]
@@ -13,100 +14,60 @@ pub(crate) struct Table {
     rows: [Row; 64],
 }
 
-// Whether some row holds the lock.
-fn some_holds(rows: &[Row], lock: u16) -> bool
-    requires { (v : ℕ) → (slice_index_or rows.now v no_row).count ≤ 64 }
-    ensures { result ≡ held_by_some (map thread_row rows.now) lock }
-{
-    for row in rows {
-        if row.holds(lock) {
-            return true;
-        }
-    }
-    false
-}
-
 impl Table {
-    // No thread was started.
-    fn unborn() -> Table
-        ensures { result.rows ≡ replicate 64 unstarted }
-    {
-        Table {
-            rows: [Row::unborn(); 64],
-        }
-    }
-
-    // Thread 0 begins in segment 0.
-    fn begin_first(&mut self)
-        requires { Counted self.old }
-        ensures { Changed (λ r. in_state live (in_segment 0 r)) 0 self.old self.new }
-    {
-        self.begin(0, 0);
-    }
-
     // Thread 0 is live in segment 0, and no other was started.
     pub(crate) fn fresh() -> Table
-        ensures rows { table_rows result ≡ fresh_rows }
-        ensures counted { Counted result }
-        ensures tidy { Tidy result }
+        ensures { table_rows result ≡ fresh_rows }
     {
-        let mut table = Table::unborn();
-        table.begin_first();
-        table
+        let mut rows = array::from_fn(|_| Row::unborn());
+        rows[0].begin(0);
+        Table { rows }
     }
 
-    pub(crate) fn row(&self, thread: u16) -> &Row
-        requires { thread ≤ 63 }
-        ensures { result.now ≡ row_in self.now thread }
+    pub(crate) fn row(&self, t: Index) -> &Row
+        ensures { result.now ≡ row_at (table_rows self.now) t }
     {
-        &self.rows[thread as usize]
+        &self.rows[usize::from(t.get())]
     }
 
     // Whether some thread holds the lock.
-    pub(crate) fn is_held(&self, lock: u16) -> bool
-        requires { Counted self.now }
-        ensures { result ≡ held_by_some (table_rows self.now) lock }
+    pub(crate) fn is_held(&self, o: u16) -> bool
+        ensures { result ≡ held_by_some (table_rows self.now) o }
     {
-        some_holds(&self.rows, lock)
+        self.rows.iter().any(|row| row.holds(o))
     }
 
     // Thread t takes lock o.
-    pub(crate) fn push(&mut self, t: u16, o: u16)
-        requires { (t ≤ 63) × ((o ≤ 63) × ((Counted self.old) × ((Tidy self.old) × (holds (thread_row (row_in self.old t)) o ≡ false)))) }
-        ensures { Changed (λ r. with_locks (taken o r.locks) r) t self.old self.new }
+    pub(crate) fn push(&mut self, t: Index, o: Index)
+        requires { holds (row_at (table_rows self.old) t) o ≡ false }
+        ensures { table_rows self.new ≡ took (table_rows self.old) t o }
     {
-        self.rows[t as usize].push(o);
+        self.rows[usize::from(t.get())].push(o);
     }
 
     // Thread t gives lock o up.
-    pub(crate) fn remove(&mut self, t: u16, o: u16)
-        requires { (t ≤ 63) × (Counted self.old) }
-        ensures { Changed (λ r. with_locks (given_up o r.locks) r) t self.old self.new }
+    pub(crate) fn remove(&mut self, t: Index, o: Index)
+        ensures { table_rows self.new ≡ gave_up (table_rows self.old) t o }
     {
-        self.rows[t as usize].remove(o);
+        self.rows[usize::from(t.get())].remove(o);
     }
 
-    // Thread t goes on in another segment.
-    pub(crate) fn go_on(&mut self, t: u16, segment: u16)
-        requires { (t ≤ 63) × (Counted self.old) }
-        ensures { Changed (in_segment segment) t self.old self.new }
+    // Thread t goes on in segment n, and thread u begins in n + 1.
+    pub(crate) fn split(&mut self, t: Index, u: Index, n: u16)
+        requires { n < 65535 }
+        ensures { table_rows self.new
+            ≡ changed (λ r. in_state live (in_segment (n + 1) r)) u (changed (in_segment n) t (table_rows self.old)) }
     {
-        self.rows[t as usize].go_on(segment);
+        self.rows[usize::from(t.get())].go_on(n);
+        self.rows[usize::from(u.get())].begin(n + 1);
     }
 
-    // Thread u begins in the segment.
-    pub(crate) fn begin(&mut self, u: u16, segment: u16)
-        requires { (u ≤ 63) × (Counted self.old) }
-        ensures { Changed (λ r. in_state live (in_segment segment r)) u self.old self.new }
+    // Thread t goes on in segment n, and thread u has ended.
+    pub(crate) fn unite(&mut self, t: Index, u: Index, n: u16)
+        ensures { table_rows self.new
+            ≡ changed (in_state joined) u (changed (in_segment n) t (table_rows self.old)) }
     {
-        self.rows[u as usize].begin(segment);
-    }
-
-    // Thread u has ended.
-    pub(crate) fn end(&mut self, u: u16)
-        requires { (u ≤ 63) × (Counted self.old) }
-        ensures { Changed (in_state joined) u self.old self.new }
-    {
-        self.rows[u as usize].end();
+        self.rows[usize::from(t.get())].go_on(n);
+        self.rows[usize::from(u.get())].end();
     }
 }

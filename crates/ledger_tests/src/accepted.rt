@@ -1,5 +1,5 @@
 // What accepted events do.
-use crate::bench::{enter_all, number};
+use crate::bench::{enter_all, refusal};
 use ledger::Ledger;
 use order::{Clocks, Matrix, SegmentOrder};
 use rows::{Edge, Event, Life};
@@ -47,10 +47,10 @@ fn a_present_edge_needs_no_place(rt: HostRuntime) {
     let mut places = [Edge::blank(); 1];
     let mut edges = SortedList::open(&mut places);
     let mut ledger = Ledger::fresh();
-    assert_eq!(rt; number(ledger.lock(&mut edges, 0, 1)), 0);
-    assert_eq!(rt; number(ledger.lock(&mut edges, 0, 2)), 0);
-    assert_eq!(rt; number(ledger.release(0, 2)), 0);
-    assert_eq!(rt; number(ledger.lock(&mut edges, 0, 2)), 0);
+    assert_eq!(rt; ledger.lock(&mut edges, 0, 1), Ok(()));
+    assert_eq!(rt; ledger.lock(&mut edges, 0, 2), Ok(()));
+    assert_eq!(rt; ledger.release(0, 2), Ok(()));
+    assert_eq!(rt; ledger.lock(&mut edges, 0, 2), Ok(()));
     assert_eq!(rt; edges.count(), 1);
 }
 
@@ -60,9 +60,9 @@ fn a_release_closes_the_gap(rt: HostRuntime) {
     let mut edges = SortedList::open(&mut places);
     let mut ledger = Ledger::fresh();
     for o in 1..4 {
-        assert_eq!(rt; number(ledger.lock(&mut edges, 0, o)), 0);
+        assert_eq!(rt; ledger.lock(&mut edges, 0, o), Ok(()));
     }
-    assert_eq!(rt; number(ledger.release(0, 2)), 0);
+    assert_eq!(rt; ledger.release(0, 2), Ok(()));
     assert_eq!(rt; ledger.held(0, 0), Some(1));
     assert_eq!(rt; ledger.held(0, 1), Some(3));
     assert_eq!(rt; ledger.held(0, 2), None);
@@ -74,9 +74,9 @@ fn lock_63_is_the_last(rt: HostRuntime) {
     let mut places = [Edge::blank(); 2];
     let mut edges = SortedList::open(&mut places);
     let mut ledger = Ledger::fresh();
-    assert_eq!(rt; number(ledger.lock(&mut edges, 0, 63)), 0);
-    assert_eq!(rt; number(ledger.lock(&mut edges, 0, 64)), 1);
-    assert_eq!(rt; number(ledger.lock(&mut edges, 0, 0)), 0);
+    assert_eq!(rt; ledger.lock(&mut edges, 0, 63), Ok(()));
+    assert_eq!(rt; refusal(ledger.lock(&mut edges, 0, 64)), Some(1));
+    assert_eq!(rt; ledger.lock(&mut edges, 0, 0), Ok(()));
     assert_eq!(rt; edges.at(0), edge(63, 0, 9_223_372_036_854_775_808, 0));
 }
 
@@ -94,7 +94,7 @@ fn passes_on<O: SegmentOrder + Drop>(rt: &impl Abort) {
     assert_eq!(rt; ledger.segment(1), Some(4));
     assert_eq!(rt; ledger.segment(2), Some(5));
     assert!(rt; order.precedes(1, 5) && order.precedes(4, 5) && !order.precedes(3, 5));
-    assert_eq!(rt; number(ledger.join(&mut order, 0, 1)), 0);
+    assert_eq!(rt; ledger.join(&mut order, 0, 1), Ok(()));
     assert_eq!(rt; ledger.segment(0), Some(6));
 }
 

@@ -1,4 +1,4 @@
-// What the tests share: events entered one after another, and the comparison of two ledgers with their lists and orders.
+// What the tests share: events entered one after another, and the comparison of two ledgers and of two orders.
 use ledger::Ledger;
 use order::SegmentOrder;
 use rows::{Edge, Event};
@@ -6,12 +6,9 @@ use rules::EventCause;
 use sorted_list::SortedList;
 use std::process::Abort;
 
-// The number of the cause for which an event is turned down, 0 where it is accepted.
-pub(crate) fn number(answer: Result<(), EventCause>) -> u32 {
-    match answer {
-        Ok(()) => 0,
-        Err(cause) => cause.number(),
-    }
+// The number of the cause for which an event is turned down.
+pub(crate) fn refusal(answer: Result<(), EventCause>) -> Option<u32> {
+    answer.err().map(|cause| cause.number())
 }
 
 // Enters events that are all accepted.
@@ -23,7 +20,7 @@ pub(crate) fn enter_all<O: SegmentOrder>(
     events: &[Event],
 ) {
     for event in events {
-        assert_eq!(rt; number(ledger.enter(edges, order, *event)), 0);
+        assert_eq!(rt; ledger.enter(edges, order, *event), Ok(()));
     }
 }
 
@@ -34,17 +31,6 @@ pub(crate) fn same_rows(rt: &impl Abort, first: &Ledger, second: &Ledger) {
         for place in 0..4 {
             assert_eq!(rt; first.held(t, place), second.held(t, place));
         }
-    }
-}
-
-pub(crate) fn same_edges(
-    rt: &impl Abort,
-    first: &SortedList<'_, Edge>,
-    second: &SortedList<'_, Edge>,
-) {
-    assert_eq!(rt; first.count(), second.count());
-    for place in 0..first.count() {
-        assert_eq!(rt; first.at(place), second.at(place));
     }
 }
 

@@ -1,5 +1,5 @@
 // Every refusal of an event, and that it leaves rows, edges and order as they were.
-use crate::bench::{enter_all, number, same_edges, same_order, same_rows};
+use crate::bench::{enter_all, refusal, same_order, same_rows};
 use ledger::Ledger;
 use order::{Clocks, Matrix, SegmentOrder};
 use rows::{Edge, Event};
@@ -43,14 +43,10 @@ const REFUSED: [(&[Event], Event, u32); 19] = [
     ),
 ];
 
-fn blank_edges() -> [Edge; 1] {
-    [Edge::blank(); 1]
-}
-
 // A further start is answered alike, too.
 fn refuses<O: SegmentOrder + Drop>(rt: &impl Abort, before: &[Event], event: Event, cause: u32) {
-    let mut places = blank_edges();
-    let mut twins = blank_edges();
+    let mut places = [Edge::blank(); 1];
+    let mut twins = [Edge::blank(); 1];
     let mut edges = SortedList::open(&mut places);
     let mut others = SortedList::open(&mut twins);
     let mut order = O::fresh();
@@ -59,18 +55,21 @@ fn refuses<O: SegmentOrder + Drop>(rt: &impl Abort, before: &[Event], event: Eve
     let mut twin = Ledger::fresh();
     enter_all(rt, &mut ledger, &mut edges, &mut order, before);
     enter_all(rt, &mut twin, &mut others, &mut other, before);
-    assert_eq!(rt; number(ledger.enter(&mut edges, &mut order, event)), cause);
+    assert_eq!(rt;
+        refusal(ledger.enter(&mut edges, &mut order, event)),
+        Some(cause)
+    );
     same_rows(rt, &ledger, &twin);
-    same_edges(rt, &edges, &others);
+    assert_eq!(rt; edges.records(), others.records());
     same_order(rt, &order, &other);
-    let start = number(ledger.start(&mut order, 0, 9));
-    assert_eq!(rt; number(twin.start(&mut other, 0, 9)), start);
+    let start = ledger.start(&mut order, 0, 9);
+    assert_eq!(rt; twin.start(&mut other, 0, 9), start);
     same_rows(rt, &ledger, &twin);
 }
 
 #[test]
 fn a_refused_event_leaves_everything_as_it_was(rt: HostRuntime) {
-    for (before, event, cause) in REFUSED.iter() {
+    for (before, event, cause) in &REFUSED {
         refuses::<Matrix>(&rt, before, *event, *cause);
         refuses::<Clocks>(&rt, before, *event, *cause);
     }
@@ -81,7 +80,7 @@ fn strange_order<O: SegmentOrder + Drop>(rt: &impl Abort) {
     let mut order = O::fresh();
     assert!(rt; order.fork(0).is_ok());
     let mut ledger = Ledger::fresh();
-    assert_eq!(rt; number(ledger.start(&mut order, 0, 1)), 8);
+    assert_eq!(rt; refusal(ledger.start(&mut order, 0, 1)), Some(8));
     assert_eq!(rt; ledger.segment(0), Some(0));
     assert!(rt; !order.precedes(0, 3));
 }
@@ -97,13 +96,13 @@ fn fills<O: SegmentOrder + Drop>(rt: &impl Abort, joins: u32) {
     let mut order = O::fresh();
     let mut ledger = Ledger::fresh();
     for u in 1..64 {
-        assert_eq!(rt; number(ledger.start(&mut order, 0, u)), 0);
+        assert_eq!(rt; ledger.start(&mut order, 0, u), Ok(()));
     }
     for _ in 0..joins {
-        assert_eq!(rt; number(ledger.join(&mut order, 0, 1)), 0);
+        assert_eq!(rt; ledger.join(&mut order, 0, 1), Ok(()));
     }
-    assert_eq!(rt; number(ledger.join(&mut order, 0, 1)), 9);
-    assert_eq!(rt; number(ledger.join(&mut order, 2, 1)), 9);
+    assert_eq!(rt; refusal(ledger.join(&mut order, 0, 1)), Some(9));
+    assert_eq!(rt; refusal(ledger.join(&mut order, 2, 1)), Some(9));
 }
 
 #[test]

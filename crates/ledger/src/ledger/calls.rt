@@ -1,4 +1,5 @@
-// The calls of a ledger: one for each kind of event, and one for any event.
+// The calls of a ledger: one for each kind of event, and one for any event. First the checks, then the order, then the rows:
+// a refused event changes nothing.
 ghost use Rattle.std.specs.Prelude.{◌≡◌, ℕ};
 ghost use Rattle.sorted_list.specs.Lists.{Held, held, opened};
 ghost use Rattle.order.specs.Meaning.{Meaning, fresh_order};
@@ -50,7 +51,10 @@ impl Ledger {
         ensures accepts { (limit : ℕ) (m : Meaning) → Accepts limit (Lock t o) result
             (state_with self.old edges.old m) }
     {
-        self.take_lock(edges, t, o)
+        let (t, o) = self.check_lock(edges, t, o)?;
+        self.table.row(t).draw(edges, t, o);
+        self.table.push(t, o);
+        Ok(())
     }
 
     // Thread t gives lock o up.
@@ -63,7 +67,9 @@ impl Ledger {
         ensures accepts { (limit : ℕ) (h : Held LockEdge) (m : Meaning) → Accepts limit (Release t o) result
             (state (rows_of self.old) h m) }
     {
-        self.give_up(t, o)
+        let (t, o) = self.check_release(t, o)?;
+        self.table.remove(t, o);
+        Ok(())
     }
 
     // Thread t starts thread u. Both go on in new segments.
@@ -86,7 +92,10 @@ impl Ledger {
         ensures ends { (h : Held LockEdge) → FindsEnds result
             (state (rows_of self.old) h (O.meaning order.old)) }
     {
-        self.begin(order, t, u)
+        let (t, u) = self.check_start(t, u)?;
+        let n = order.fork(self.table.row(t).segment())?;
+        self.table.split(t, u, n);
+        Ok(())
     }
 
     // Thread t has waited for thread u to end, and goes on in a new segment.
@@ -104,7 +113,10 @@ impl Ledger {
         ensures ends { (h : Held LockEdge) → FindsEnds result
             (state (rows_of self.old) h (O.meaning order.old)) }
     {
-        self.wait_for(order, t, u)
+        let (t, u) = self.check_join(t, u)?;
+        let n = order.meet(self.table.row(t).segment(), self.table.row(u).segment())?;
+        self.table.unite(t, u, n);
+        Ok(())
     }
 
     // Any event.
@@ -127,6 +139,11 @@ impl Ledger {
         ensures ends { FindsEnds result
             (state_with self.old edges.old (O.meaning order.old)) }
     {
-        self.take_in(edges, order, event)
+        match event {
+            Event::Lock(t, o) => self.lock(edges, t, o),
+            Event::Release(t, o) => self.release(t, o),
+            Event::Start(t, u) => self.start(order, t, u),
+            Event::Join(t, u) => self.join(order, t, u),
+        }
     }
 }

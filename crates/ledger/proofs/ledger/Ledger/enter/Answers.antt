@@ -1,24 +1,27 @@
 use Rattle.sorted_list.specs.Lists.{held}
-use Rattle.rules.specs.States.{state}
-use Rattle.ledger.specs.Ledgers.{rows_of}
-use Rattle.ledger.proofs.Recorded.{records, accepts, finds_ends}
 use Rattle.ledger.proofs.ledger.Ledger.enter.Goals as goal
 
-pub returns : goal.returns
-returns g c =
-    let limit = g.O.SegmentOrder.limit in
-    let meaning = g.O.SegmentOrder.meaning in
-    let is = c.take_in.ensures in
-    let at = c.take_in.new in
-    let before = state (rows_of c.args.self.now) (held c.args.edges.now) (meaning c.args.order.now) in
-    let later = state (rows_of at.self) (held at.edges) (meaning at.order) in
-    let event = c.args.event in
-    let result = c.take_in.result in
-    record {
-      answers = is.answers;
-      leaves = is.leaves;
-      lent = is.lent;
-      behind = records limit before event result is.answers later is.leaves;
-      accepts = accepts limit before event result is.answers;
-      ends = finds_ends limit before event result is.answers;
-    }
+pub returns-in-Lock-clause-behind : goal.returns-in-Lock-clause-behind
+returns-in-Lock-clause-behind g c = rw c.in-Lock.is (c.lock.ensures.behind (g.O.SegmentOrder.meaning c.args.order.now))
+
+pub returns-in-Lock-clause-accepts : goal.returns-in-Lock-clause-accepts
+returns-in-Lock-clause-accepts g c = rw c.in-Lock.is (c.lock.ensures.accepts g.O.SegmentOrder.limit (g.O.SegmentOrder.meaning c.args.order.now))
+
+pub returns-in-Release-clause-behind : goal.returns-in-Release-clause-behind
+returns-in-Release-clause-behind g c = rw c.in-Release.is (c.release.ensures.behind (held c.args.edges.now) (g.O.SegmentOrder.meaning c.args.order.now))
+
+pub returns-in-Release-clause-accepts : goal.returns-in-Release-clause-accepts
+returns-in-Release-clause-accepts g c =
+    rw c.in-Release.is (c.release.ensures.accepts g.O.SegmentOrder.limit (held c.args.edges.now) (g.O.SegmentOrder.meaning c.args.order.now))
+
+pub returns-in-Start-clause-behind : goal.returns-in-Start-clause-behind
+returns-in-Start-clause-behind g c = rw c.in-Start.is (c.start.ensures.behind (held c.args.edges.now))
+
+pub returns-in-Join-clause-behind : goal.returns-in-Join-clause-behind
+returns-in-Join-clause-behind g c = rw c.in-Join.is (c.join.ensures.behind (held c.args.edges.now))
+
+pub returns-in-Join-clause-accepts : goal.returns-in-Join-clause-accepts
+returns-in-Join-clause-accepts g c = rw c.in-Join.is (c.join.ensures.accepts (held c.args.edges.now))
+
+pub returns-in-Join-clause-ends : goal.returns-in-Join-clause-ends
+returns-in-Join-clause-ends g c = c.join.ensures.ends (held c.args.edges.now)

@@ -1,20 +1,13 @@
+use Rattle.std.proofs.Common.{rules}
 use Rattle.rows.specs.declared.event.Event.TheVariants.{Lock}
-use Rattle.sorted_list.specs.Lists.{held}
-use Rattle.rules.specs.States.{state}
-use Rattle.ledger.specs.Ledgers.{rows_of}
-use Rattle.ledger.proofs.Recorded.{records, accepts}
+use Rattle.ledger.proofs.Recorded.{recorded_at, accepted_at}
 use Rattle.ledger.proofs.ledger.Ledger.lock.Goals as goal
 
-pub returns : goal.returns
-returns c =
-    let is = c.take_lock.ensures in
-    let before = state (rows_of c.args.self.now) (held c.args.edges.now) in
-    let event = Lock c.args.t c.args.o in
-    record {
-      answers = is.answers;
-      rows = is.rows;
-      draws = is.draws;
-      lent = is.lent;
-      behind = λ m. records 0 (before m) event _ is.answers _ (λ k. state (is.rows k) (is.draws k) m);
-      accepts = λ limit m. accepts limit (before m) event _ is.answers;
-    }
+pub returns-in_err-t-clause-accepts : goal.returns-in_err-t-clause-accepts
+returns-in_err-t-clause-accepts c = λ limit m ρ b. accepted_at limit (Lock c.args.t c.args.o) b (search rules)
+
+pub returns-clause-behind : goal.returns-clause-behind
+returns-clause-behind c = λ m ρ b. recorded_at 0 (Lock c.args.t c.args.o) b (search rules) (search rules)
+
+pub returns-clause-accepts : goal.returns-clause-accepts
+returns-clause-accepts c = λ limit m ρ b. accepted_at limit (Lock c.args.t c.args.o) b (search rules)

@@ -1,17 +1,14 @@
+use Rattle.std.proofs.Common.{rules}
 use Rattle.rows.specs.declared.event.Event.TheVariants.{Release}
-use Rattle.rules.specs.States.{state}
-use Rattle.ledger.specs.Ledgers.{rows_of}
-use Rattle.ledger.proofs.Recorded.{records, accepts}
+use Rattle.ledger.proofs.Recorded.{recorded_at, accepted_at}
 use Rattle.ledger.proofs.ledger.Ledger.release.Goals as goal
 
-pub returns : goal.returns
-returns c =
-    let is = c.give_up.ensures in
-    let before = state (rows_of c.args.self.now) in
-    let event = Release c.args.t c.args.o in
-    record {
-      answers = is.answers;
-      rows = is.rows;
-      behind = λ h m. records 0 (before h m) event _ is.answers _ (λ k. state (is.rows k) h m);
-      accepts = λ limit h m. accepts limit (before h m) event _ is.answers;
-    }
+pub returns-in_err-t-clause-accepts : goal.returns-in_err-t-clause-accepts
+returns-in_err-t-clause-accepts c =
+    λ limit h m ρ b. accepted_at limit (Release c.args.t c.args.o) b (search rules)
+
+pub returns-clause-behind : goal.returns-clause-behind
+returns-clause-behind c = λ h m ρ b. recorded_at 0 (Release c.args.t c.args.o) b (search rules) (search rules)
+
+pub returns-clause-accepts : goal.returns-clause-accepts
+returns-clause-accepts c = λ limit h m ρ b. accepted_at limit (Release c.args.t c.args.o) b (search rules)

@@ -1,19 +1,16 @@
-use Rattle.std.proofs.Common.{ap, ◌∙◌}
-use Rattle.std.proofs.lemmas.List.{take_more_set}
-use Rattle.rules.specs.Rows.{with_locks}
-use Rattle.ledger.specs.Rows.{thread_row}
-use Rattle.ledger.proofs.Locks.{tidy_few}
+use Rattle.std.proofs.Common.{◌≤◌, ap, ◌∙◌, arith, rules}
+use Rattle.rules.specs.Rows.{ThreadRow, has}
+use Rattle.ledger.proofs.Locks.{tidy_few, tidy_push}
 use Rattle.ledger.proofs.row.Row.push.Goals as goal
 
-pub append-requires : goal.append-requires
-append-requires c =
-    let low = c.requires.1.1.1 in
-    let few = tidy_few (thread_row c.args.self.now).locks c.args.lock c.requires.1.0 c.requires.1.1.0 low in
-    (c.requires.0, (few, low))
+pub push-requires : goal.push-requires
+push-requires c =
+    let low : c.args.lock ≤ 63 = omega arith in
+    let new = ap (λ (r : ThreadRow). has r.locks c.args.lock) c.self.view_is ∙ c.requires in
+    (search rules, tidy_few _ c.args.lock c.self.invariant new low)
 
-pub returns : goal.returns
-returns c =
-    let row = c.args.self.now in
-    let is = c.append.ensures in
-    let more = take_more_set row.locks row.count c.args.lock is.room in
-    record { row = ap thread_row is.row ∙ ap (λ ls. with_locks ls (thread_row row)) more; count = is.count }
+pub invariant_of-self : goal.invariant_of-self
+invariant_of-self c =
+    let low : c.args.lock ≤ 63 = omega arith in
+    let new = ap (λ (r : ThreadRow). has r.locks c.args.lock) c.self.view_is ∙ c.requires in
+    rw c.push.ensures.items (tidy_push _ c.args.lock c.self.invariant new low)
