@@ -18,7 +18,7 @@ abbrev pub rows_of : Ledger → List ThreadRow
 rows_of l = table_rows l.table
 
 -- A ledger with an edge list and an order.
-abbrev pub state_with : Ledger → SortedList Edge → Meaning → State
+abbrev pub state_with : {r : _} → Ledger → SortedList Edge r → Meaning → State
 state_with l edges order = state (rows_of l) (held edges) order
 
 -- ---- questions on thread v; above 63 there is none
