@@ -23,6 +23,7 @@ abbrev pub Ascending : {X : Type 0} → (X → X → Ordering) → List X → Ty
 Ascending rank [] = Unit {0}
 Ascending rank (x ∷ xs) = AllByRecursion (λ y. rank x y ≡ Less) xs × Ascending rank xs
 
+-- That records ascend holds in one way at most.
 pub ascending_once : {X : Type 0} (rank : X → X → Ordering) (xs : List X) → IsProp (Ascending rank xs)
 ascending_once rank [] = Unit-prop
 ascending_once rank (x ∷ xs) = ×_prop (AllByRecursion-prop _ (λ y. Ordering-set _ _) xs) (ascending_once rank xs)

@@ -23,7 +23,7 @@ impl<'a, R: Record> SortedList<'a, R> {
     pub fn records(&self) -> &[R]
         ensures { result.now ≡ (held self.now).records }
     {
-        &self.places[0..self.count]
+        &self.places[..self.count]
     }
 
     // How many records the list holds.
