@@ -2,19 +2,7 @@
 use rows::Edge;
 use sorted_list::{ListCause, Record, SortedList};
 
-// thread, held lock, wanted lock, guards, segment, and whether that is an edge
-const ROWS: [(u8, u8, u8, u64, u16, bool); 9] = [
-    (0, 0, 1, 1, 0, true),
-    (63, 63, 62, 0x8000_0000_0000_0000, 65_535, true),
-    (1, 2, 3, 0b0110, 7, true),
-    (64, 0, 1, 1, 0, false),
-    (0, 64, 1, 1, 0, false),
-    (0, 0, 64, 1, 0, false),
-    (0, 0, 255, 1, 0, false),
-    (0, 2, 1, 1, 0, false),
-    (0, 0, 1, 0b11, 0, false),
-];
-
+// thread, held lock, wanted lock, guards and segment
 fn edge(thread: u8, held: u8, wanted: u8, guards: u64, segment: u16) -> Edge {
     Edge {
         thread,
@@ -27,11 +15,20 @@ fn edge(thread: u8, held: u8, wanted: u8, guards: u64, segment: u16) -> Edge {
 
 #[test]
 fn rows_are_edges_by_their_numbers(rt: HostRuntime) {
-    for (thread, held, wanted, guards, segment, expected) in ROWS.iter() {
-        assert_eq!(rt;
-            edge(*thread, *held, *wanted, *guards, *segment).is_edge(),
-            *expected
-        );
+    // whether each row is an edge
+    let rows = [
+        (edge(0, 0, 1, 1, 0), true),
+        (edge(63, 63, 62, 0x8000_0000_0000_0000, 65_535), true),
+        (edge(1, 2, 3, 0b0110, 7), true),
+        (edge(64, 0, 1, 1, 0), false),
+        (edge(0, 64, 1, 1, 0), false),
+        (edge(0, 0, 64, 1, 0), false),
+        (edge(0, 0, 255, 1, 0), false),
+        (edge(0, 2, 1, 1, 0), false),
+        (edge(0, 0, 1, 0b11, 0), false),
+    ];
+    for (row, expected) in rows {
+        assert_eq!(rt; row.is_edge(), expected);
     }
     assert!(rt; Edge::blank().is_edge());
 }

@@ -8,7 +8,8 @@ use sorted_list::{Record, WholeKey};
 use std::cmp::Ordering;
 
 // An edge: the thread held one lock, with others as guards, when it took another, in this segment of its life.
-// Guards are a set, in which lock i is bit i, and the held lock is one of them. Edges ascend by these places in turn.
+// Guards are a set, in which lock i is bit i, since rows lie plainly in memory; the held lock is one of them.
+// Edges ascend by these places in turn.
 #[derive(Clone, Copy, PartialEq, Eq, PartialOrd, Ord, Debug)]
 pub struct Edge {
     pub thread: u8,

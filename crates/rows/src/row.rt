@@ -9,7 +9,8 @@ use crate::step::Step;
 use sorted_list::{Record, WholeKey};
 use std::cmp::Ordering;
 
-// A number of steps, and places for 64. Rows ascend by that number, and then by their steps in turn, in all places.
+// A number of steps, and places for 64: the number stands beside the places, since rows lie plainly in memory.
+// Rows ascend by that number, and then by their steps in turn, in all places.
 #[derive(Clone, Copy, PartialEq, Eq, PartialOrd, Ord, Debug)]
 pub struct CircleRow {
     pub count: u8,
