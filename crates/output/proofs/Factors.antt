@@ -33,10 +33,10 @@ multiplied k s p from start end fresh =
     let low : r.0 ≡ 1 = r.2 ∙ ap range_inclusive_start from ∙ start in
     let high : r.1 ≡ k + 1 = omega (arith, r.3, ap range_inclusive_end from, end) in
     let places : (i : ℕ) → i < length p.items → get_or p.items i 0 ≡ (0 + 1) + i = λ i l.
-        let come = up.0.3 i (omega (arith, p.long)) in
-        let read = p.reads i 0 (omega (arith, p.long)) in
-        let e : get_or p.items i 0 ≡ r.0 + i = cc in
-        omega arith in
+    let come = up.0.3 i (omega (arith, p.long)) in
+    let read = p.reads i 0 (omega (arith, p.long)) in
+    let e : get_or p.items i 0 ≡ r.0 + i = cc in
+    omega arith in
     let none : 0 + length p.items ≡ length p.items = omega arith in
     record {
       product = factors 1 0 p.items refl places ∙ ap factorial none;
