@@ -1,6 +1,6 @@
 -- What is printed of a line that was put into 1,024 bytes of zeros.
 -- Assumes nothing.
-use Rattle.std.proofs.Common.{◌≡◌, ℕ, List, take, replicate, Ok, Err, Result, refl, arith}
+use Rattle.std.proofs.Common.{◌≡◌, ℕ, List, replicate, Ok, Err, Result, refl, arith}
 use Rattle.std.proofs.lemmas.Grind.{common_steps}
 use Rattle.output.specs.Lines.{answer, memory_after}
 use Rattle.output.specs.Texts.{line_or_none}

@@ -7,14 +7,11 @@ ghost use Rattle.output.specs.declared.cause.OutputCause.{OutputCause};
 ghost use Rattle.console.specs.Printed.{front};
 
 use feed::Fault;
-use output::{OutputCause, answer_line, circle_line, fault_line};
+use output::{LINE_MEMORY, OutputCause, answer_line, circle_line, fault_line};
 use recording::Answer;
 use rows::Circle;
 use std::io;
 use std::io::Write;
-
-// The memory for one line.
-const LINE: usize = 1_024;
 
 // Writes the line that is put into the memory, and nothing where none is.
 fn print_line<W: Write, F: FnOnce(&mut [u8]) -> Result<usize, OutputCause>>(
@@ -26,7 +23,7 @@ fn print_line<W: Write, F: FnOnce(&mut [u8]) -> Result<usize, OutputCause>>(
     ensures { OnOk result ((end : Result ℕ OutputCause) × (line : List ℕ) × FnOnceReturnsAtMut F.FnOnce put (replicate 1024 0) end line
         × Appends (W.contents out.old) (W.contents out.new) (front line end)) }
 {
-    let mut line = [0; LINE];
+    let mut line = [0; LINE_MEMORY];
     let Ok(end) = put(&mut line) else {
         return Ok(());
     };

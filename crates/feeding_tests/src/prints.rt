@@ -1,7 +1,6 @@
 // Odds, and printed lines.
-use feeding::{Cause, Fault};
-use output::{OutputCause, odds};
-use printing::{answer_line, circle_line, fault_line};
+use feed::{Cause, Fault};
+use output::{OutputCause, answer_line, circle_line, fault_line, odds};
 use rows::{Circle, CircleRow, Step};
 use std::process::Abort;
 use text::TextCause;
@@ -21,26 +20,23 @@ const NO_ODDS: [(u32, u32); 4] = [(1, 1), (65, 1), (2, 0), (2, 9)];
 
 #[test]
 fn odds_are_rounded_down(rt: HostRuntime) {
-    for (k, n, expected) in ODDS.iter() {
-        assert_eq!(rt; odds(*k, *n), Ok(*expected));
+    for (k, n, expected) in ODDS {
+        assert_eq!(rt; odds(k, n), Ok(expected));
     }
-    for (k, n) in NO_ODDS.iter() {
-        assert_eq!(rt; odds(*k, *n), Err(OutputCause::Odds));
+    for (k, n) in NO_ODDS {
+        assert_eq!(rt; odds(k, n), Err(OutputCause::Odds));
     }
 }
 
 // The memory holds the text, and zeros behind it.
 fn check_line(rt: &impl Abort, line: &[u8], text: &[u8]) {
-    for (i, b) in line.iter().enumerate() {
-        assert_eq!(rt; *b, if i < text.len() { text[i] } else { 0 });
-    }
+    let rest = line.strip_prefix(text);
+    assert!(rt; rest.is_some_and(|rest| rest.iter().all(|b| *b == 0)));
 }
 
 // The memory is as it was made.
 fn check_untouched(rt: &impl Abort, line: &[u8]) {
-    for b in line.iter() {
-        assert_eq!(rt; *b, 7);
-    }
+    assert!(rt; line.iter().all(|b| *b == 7));
 }
 
 #[test]
@@ -98,7 +94,7 @@ fn two_steps() -> Circle {
 fn longest() -> Circle {
     let mut steps = [NO_STEP; 64];
     for i in 0..64u8 {
-        steps[i as usize] = Step {
+        steps[usize::from(i)] = Step {
             thread: 192 + i,
             held: 192 + i,
             wanted: 192 + (i + 1) % 64,

@@ -13,3 +13,4 @@ pub use cause::OutputCause;
 pub use chance::odds;
 pub use circle::circle_line;
 pub use fault::fault_line;
+pub use line::LINE_MEMORY;

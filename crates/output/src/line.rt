@@ -1,4 +1,5 @@
 // The text of one line, which grows in memory of its own until it is whole, and is then laid into lent memory.
+// `write!` would not do: its contract says what it wrote where it succeeds, and not that it does where there is room.
 ghost use Rattle.std.specs.Prelude.{◌≡◌, ◌+◌, ◌<◌, ◌≤◌, ◌++◌, length, IfOk, Ok};
 ghost use Rattle.arrayvec.specs.ArrayString.{array_string_len};
 ghost use Rattle.output.specs.Lines.{answer, memory_after};
@@ -9,7 +10,7 @@ use arrayvec::ArrayString;
 use itoa::{Buffer, Integer};
 
 // The least memory for a line, in bytes. No line is longer.
-pub(crate) const LINE_MEMORY: usize = 1024;
+pub const LINE_MEMORY: usize = 1024;
 
 pub(crate) type Text = ArrayString<LINE_MEMORY>;
 

@@ -1,4 +1,3 @@
-use Rattle.std.proofs.Common.{arith}
 use Rattle.console.proofs.Known.{taken}
 use Rattle.console.proofs.input.read_input.Goals as goal
 

@@ -1,4 +1,4 @@
-use Rattle.std.proofs.Common.{◌≤◌, replicate, sym, length-take-le, arith, of_calls}
+use Rattle.std.proofs.Common.{replicate, sym, length-take-le, arith, of_calls}
 use Rattle.std.specs.Fn.{FnOnceReturnsAtMut}
 use Rattle.console.proofs.Known.{appends_nothing}
 use Rattle.console.proofs.print.print_line.Goals as goal
