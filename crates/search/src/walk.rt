@@ -15,12 +15,7 @@ use rows::Edge;
 fn next_edge(rows: &[Edge], from: usize) -> Option<usize>
     ensures { result ≡ first_from is_edge rows.now from }
 {
-    for i in from..rows.len() {
-        if rows[i].is_edge() {
-            return Some(i);
-        }
-    }
-    None
+    (from..rows.len()).find(|place| rows[*place].is_edge())
 }
 
 impl Stack {

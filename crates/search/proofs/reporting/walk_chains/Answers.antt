@@ -18,9 +18,9 @@ pub loop-index-init : goal.loop-index-init
 loop-index-init g c = (
   c.build-index.ensures,
   progress_starts c.args.rows.now (g.O.SegmentOrder.meaning c.args.order.now).before c.args.budget
-      (length c.args.circles.now.places.now) c.empty-stack.result c.start-tally.result c.args.circles.now
-      c.empty-stack.ensures.0 c.empty-stack.ensures.1 c.start-tally.ensures c.requires,
-  refl,
+      (length c.args.circles.now.places.now) c.empty-stack.result c.start-tally.result c.clear.new.self
+      c.empty-stack.ensures.0 c.empty-stack.ensures.1 c.start-tally.ensures c.clear.ensures.holds,
+  c.clear.ensures.lent,
 )
 
 pub loop-index-preserved : goal.loop-index-preserved

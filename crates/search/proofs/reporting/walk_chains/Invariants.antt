@@ -7,8 +7,8 @@ abbrev pub invariant-loop-index : goal.invariant-loop-index
 invariant-loop-index g l =
     let before = (g.O.SegmentOrder.meaning l.order).before in
     Indexes l.rows l.index
-    × Progress l.rows before l.budget (length l.initial.circles.places.now) l.stack l.tally l.circles
-    × (l.circles.places.ghost_name ≡ l.initial.circles.places.ghost_name)
+    × Progress l.rows before l.budget (length l.fn.circles.places.now) l.stack l.tally l.circles
+    × (l.circles.places.ghost_name ≡ l.fn.circles.places.ghost_name)
 
 abbrev pub decreases-loop-index : goal.decreases-loop-index
 decreases-loop-index g l = l.budget - l.tally.chains
