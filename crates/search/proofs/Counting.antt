@@ -1,7 +1,7 @@
 -- How far a report has come.
 -- Assumes nothing.
-use Rattle.std.proofs.Common.{◌≡◌, ℕ, ◌+◌, ◌-◌, ◌^◌, ◌<◌, ◌≤◌, Bool, true, false, cond, ◌||◌, eqb, ltb, List, [], map, length, get_or, take, drop, replicate, is_err, Ok, Err, Result, sym, refl, ap, ◌∙◌, subst, inl, inr, arith}
-use Rattle.std.proofs.lemmas.List.{get_or-drop, length-drop, length-append, length-replicate, take-append-drop}
+use Rattle.std.proofs.Common.{◌≡◌, ℕ, ◌+◌, ◌-◌, ◌^◌, ◌<◌, ◌≤◌, Bool, true, false, cond, ◌||◌, eqb, ltb, List, [], map, length, get_or, take, drop, is_err, Ok, Err, Result, sym, refl, ap, ◌∙◌, subst, inl, inr, arith}
+use Rattle.std.proofs.lemmas.List.{get_or-drop, length-drop, length-append, take-append-drop}
 use Rattle.std.proofs.lemmas.Bool.{ltb-true, ltb-false, cases_Bool, cond-true, cond-false, false≢true}
 use Rattle.std.specs.Result.{result_and}
 use Rattle.sorted_list.specs.Lists.{Held, held, opened}
@@ -19,14 +19,14 @@ use Rattle.recording.specs.declared.cause.SearchCause.{SearchCause}
 use Rattle.recording.specs.declared.cause.SearchCause.TheVariants.{Budget, Places}
 use Rattle.recording.specs.Chains.{step}
 use Rattle.recording.specs.Enumeration.{row_at, chains, left}
-use Rattle.recording.specs.Answers.{steps_at, circles_given, circles}
-use Rattle.recording.specs.Replies.{reply, listed, reported}
+use Rattle.recording.specs.Answers.{steps_at, circles_given}
+use Rattle.recording.specs.Replies.{reply, reported}
 use Rattle.recording.specs.Walks.{ChainOrNone}
 use Rattle.recording.proofs.Walking.{left_none, left_at}
 use Rattle.recording.proofs.Judging.{held_to, full_to, held_next, full_next, over, too_many, count_few, counted, lists}
 use Rattle.search.specs.declared.stack.Stack.{Stack}
 use Rattle.search.specs.declared.tally.Tally.{Tally}
-use Rattle.search.specs.Stacks.{stacked, places, steps, Stands, Walks}
+use Rattle.search.specs.Stacks.{stacked, places, steps, Walks}
 use Rattle.search.specs.Tallies.{no_place, entered, with_circle, taken, over_budget, tallied}
 
 -- The first refusal stays.
@@ -48,13 +48,9 @@ module _ (rows : List Edge) (precedes : ℕ → ℕ → Bool) where
   all = chains rows precedes
 
   -- An empty stack stands before all the chains.
-  module _ (s : Stack) (none : s.depth ≡ 0) (stands : Stands s) where
-    nothing : stacked s ≡ []
-    nothing = ap (λ n. take n s.levels) none
-
+  module _ (s : Stack) (nothing : stacked s ≡ []) where
     pub walks_empty : Walks rows precedes s
     walks_empty = record {
-      stands = stands;
       rows_at = ap (map (λ l. l.edge)) nothing ∙ sym (ap (λ ls. map (row_at rows) (map (λ l. l.place) ls)) nothing);
       chain = subst (ChainOrNone rows precedes) (sym (ap (map (λ l. l.place)) nothing)) tt;
     }
@@ -72,12 +68,12 @@ module _ (rows : List Edge) (precedes : ℕ → ℕ → Bool) where
     pub held_is : held list ≡ held_to rows precedes n t.chains
 
   module _ (budget n : ℕ) where
-    pub progress_starts : (s : Stack) (t : Tally) (list : SortedList CircleRow) → s.depth ≡ 0 → Stands s
+    pub progress_starts : (s : Stack) (t : Tally) (list : SortedList CircleRow) → stacked s ≡ []
         → t ≡ record { chains = 0; listed = Ok tt } → held list ≡ opened blank_row n → Progress budget n s t list
-    progress_starts s t list none stands is nothing =
+    progress_starts s t list none is nothing =
         subst (λ u. Progress budget n s u list) (sym is) (record {
-          walks = walks_empty s none stands;
-          left_is = left_empty s none stands;
+          walks = walks_empty s none;
+          left_is = left_empty s none;
           within = omega arith;
           spent = omega arith;
           full_is = refl;
@@ -176,18 +172,6 @@ module _ (rows : List Edge) (precedes : ℕ → ℕ → Bool) where
               | inl e ↦ absurd (false≢true (sym good ∙ ap is_err (is ∙ cond-true (is_err t.listed) _ _ e)))
               | inr e ↦ ends_listed e
             ]
-
-pub opened_size : {X : Type 0} (vacant : X) (l : SortedList X) (n : ℕ) → held l ≡ opened vacant n → length l.places.now ≡ n
-opened_size vacant l n is =
-    let long : length (replicate n vacant) ≡ n = length-replicate n vacant in
-    memory_size l (opened vacant n) n is (omega arith)
-
--- What is left of the list once a refused report has blanked it.
-pub settled : (rows : List Edge) (precedes : ℕ → ℕ → Bool) (budget n : ℕ) (r : Result Answer SearchCause) (h : Held CircleRow)
-    → r ≡ reply rows precedes budget n → (is_err r ≡ false → h ≡ reported rows precedes budget n)
-    → cond (is_err r) (opened blank_row n) h ≡ reported rows precedes budget n
-settled rows precedes budget n (Ok a) h is holds = holds refl
-settled rows precedes budget n (Err e) h is holds = ap (λ r. listed r (circles rows precedes) n) is
 
 -- ---- the budget
 

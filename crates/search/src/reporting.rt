@@ -3,9 +3,9 @@ ghost use Rattle.std.specs.Prelude.{◌≡◌, false, length, is_err};
 ghost use Rattle.recording.specs.Replies.{reply, reported};
 ghost use Rattle.sorted_list.specs.Lists.{held};
 
-use crate::index::Index;
 use crate::stack::Stack;
 use crate::tally::Tally;
+use crate::walk::Graph;
 use order::SegmentOrder;
 use recording::{Answer, SearchCause};
 use rows::{CircleRow, Edge};
@@ -25,10 +25,10 @@ pub(crate) fn walk_chains<O: SegmentOrder>(
     ensures lent { circles.new.places.ghost_name ≡ circles.old.places.ghost_name }
 {
     circles.clear();
-    let index = Index::build(rows);
+    let graph = Graph::build(rows, order);
     let mut stack = Stack::empty();
     let mut tally = Tally::start();
-    while stack.next_chain(rows, &index, order) {
+    while stack.next_chain(&graph) {
         tally.take(&stack, budget, circles)?;
     }
     tally.answer(circles)

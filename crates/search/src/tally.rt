@@ -1,7 +1,7 @@
 // What a report has counted so far.
 ghost use Rattle.std.specs.Prelude.{◌≡◌, ◌^◌, ◌<◌, ◌≤◌, false, length, is_err, if◌then◌else◌, nat_eq};
 ghost use Rattle.sorted_list.specs.Lists.{held};
-ghost use Rattle.search.specs.Stacks.{steps, Stands};
+ghost use Rattle.search.specs.Stacks.{steps};
 ghost use Rattle.search.specs.Tallies.{entered, with_circle, taken, over_budget, tallied};
 
 use crate::stack::Stack;
@@ -18,7 +18,6 @@ pub(crate) struct Tally {
 
 // Adds the circle of a chain that closes.
 fn enter(stack: &Stack, circles: &mut SortedList<'_, CircleRow>) -> Result<(), ListCause>
-    requires { Stands stack.now }
     ensures answers { result ≡ entered (held circles.old) (steps stack.now) }
     ensures holds { held circles.new ≡ with_circle (held circles.old) (steps stack.now) }
     ensures lent { circles.new.places.ghost_name ≡ circles.old.places.ghost_name }
@@ -47,8 +46,7 @@ impl Tally {
         budget: u32,
         circles: &mut SortedList<'_, CircleRow>,
     ) -> Result<(), SearchCause>
-        requires stands { Stands stack.now }
-        requires within { self.old.chains ≤ budget }
+        requires { self.old.chains ≤ budget }
         ensures answers { result ≡ over_budget self.old budget }
         ensures counts { self.new ≡ (if nat_eq self.old.chains budget then self.old else taken self.old (entered (held circles.old) (steps stack.now))) }
         ensures holds { held circles.new ≡ (if nat_eq self.old.chains budget then held circles.old else with_circle (held circles.old) (steps stack.now)) }
