@@ -1,14 +1,15 @@
 -- Marks of blocks.
 -- Assumes nothing.
-use Rattle.std.proofs.Common.{◌≡◌, ℕ, zero, suc, ◌+◌, ◌-◌, ◌*◌, ◌/◌, ◌%◌, ◌^◌, ◌<◌, ◌≤◌, min, Bool, true, false, ◌&&◌, ◌||◌, eqb, ◌⊎◌, List, length, get_or, set, replicate, Some, None, sym, refl, ap, ◌∙◌, subst, inl, inr, ⊎_elim, add-mul, arith}
+use Rattle.std.proofs.Common.{◌≡◌, ℕ, zero, suc, ◌+◌, ◌-◌, ◌*◌, ◌/◌, ◌%◌, ◌^◌, ◌<◌, ◌≤◌, min, Bool, true, false, ◌&&◌, ◌||◌, eqb, ltb, ◌⊎◌, List, length, get_or, set, replicate, Some, None, Option, MatchOption, sym, refl, ap, ◌∙◌, subst, inl, inr, ⊎_elim, add-mul, arith}
 use native.Mathlib.Nat.{zero-div}
 use lib.Bits.{bit_or}
 use lib.Count.{count_trailing_zeros, under}
 use Rattle.std.proofs.lemmas.Nat.{shr-shr, div-add-mod', mod_below, div_below, le-div, mul-le}
-use Rattle.std.proofs.lemmas.List.{get_or_past, get_or-replicate, length-replicate}
-use Rattle.std.proofs.lemmas.Bool.{cases_eq, cases_lt, eq-eqb, ne_eqb, and_cases, or_parts}
+use Rattle.std.proofs.lemmas.List.{get_or_past, get_or-replicate, length-replicate, get_or_default}
+use Rattle.std.proofs.lemmas.Bool.{lt-ltb, le-ltb, cases_eq, cases_lt, eq-eqb, ne_eqb, and_cases, or_parts}
+use Rattle.std.specs.Bool.{then_some}
 use Rattle.order.proofs.Words.{get_or_set, or_bit, power_bit}
-use Rattle.rows.specs.Edges.{in_set}
+use Rattle.rows.specs.Edges.{in_set, blank_edge}
 use Rattle.rows.specs.declared.edge.Edge.{Edge}
 use Rattle.recording.specs.Enumeration.{row_at}
 use Rattle.recording.specs.Walks.{first_from}
@@ -81,6 +82,26 @@ skipped w k b l h =
     ap (λ x. in_set x w) (sym e) ∙ ap (λ x. eqb (x % 2) 1) (sym (shr-shr w k (b - k)))
     ∙ trailing_clear 64 (w / 2 ^ k) (b - k) (omega arith)
 
+-- The lowest bit of a word from bit k on, if it is below 64.
+abbrev pub IsNextBit : ℕ → ℕ → Option ℕ → Type 0
+IsNextBit w k o =
+    MatchOption o ((b : ℕ) → k ≤ b → b < 64 → in_set b w ≡ false)
+    (λ n. (k ≤ n) × (n < 64) × ((b : ℕ) → k ≤ b → b < n → in_set b w ≡ false))
+
+pub next_bit : (w k later : ℕ) (r : Option ℕ) → later ≡ w / 2 ^ k
+    → r ≡ then_some (ltb (k + count_trailing_zeros 64 later) 64) (k + count_trailing_zeros 64 later) → IsNextBit w k r
+next_bit w k later r is e = go (cases_lt (k + count_trailing_zeros 64 later) 64)
+  where
+    clear : (b : ℕ) → k ≤ b → b < k + count_trailing_zeros 64 later → in_set b w ≡ false
+    clear b l h = skipped w k b l (omega (arith, ap (count_trailing_zeros 64) is))
+
+    so : (t : Bool) → ltb (k + count_trailing_zeros 64 later) 64 ≡ t → r ≡ then_some t (k + count_trailing_zeros 64 later)
+    so t z = e ∙ ap (λ x. then_some x (k + count_trailing_zeros 64 later)) z
+
+    go : (k + count_trailing_zeros 64 later < 64) ⊎ (64 ≤ k + count_trailing_zeros 64 later) → IsNextBit w k r
+    go (inl h) = subst (IsNextBit w k) (sym (so true (lt-ltb _ 64 h))) (omega arith, h, clear)
+    go (inr h) = subst (IsNextBit w k) (sym (so false (le-ltb _ 64 h))) (λ b l m. clear b l (omega arith))
+
 pub and_true : (x y : Bool) → y ≡ true → (x && y) ≡ x
 and_true true y e = e
 and_true false y e = refl
@@ -103,14 +124,41 @@ mark_more rows size lock b i e m is so =
     let next : suc i ≡ i + 1 = omega arith in
     (λ j. (holding lock (is j) && eqb b (i / size)) || so j) ∙ ap (held_in rows size lock b) next
 
--- The scan found the first row.
-pub scanned_to : (rows : List Edge) (lock at x : ℕ) → at ≤ x → x < length rows
-    → ((k : ℕ) → at ≤ k → k < x → holding lock (row_at rows k) ≡ false) → holding lock (row_at rows x) ≡ true
-    → first_from (holding lock) rows at ≡ Some x
-scanned_to rows lock at x l h before found =
-    let e : at + (x - at) ≡ x = omega arith in
-    first_skip (holding lock) rows (x - at) at (λ k m n _. before k m (omega arith)) ∙ ap (first_from (holding lock) rows) e
-    ∙ first_here (holding lock) rows x h found
+-- What is read where no row stands.
+abbrev pub zero_edge : Edge
+zero_edge = record { thread = 0; held = 0; wanted = 0; guards = 0; segment = 0 }
+
+-- None of the places passes, or the one at x is the first that does.
+abbrev pub NonePasses : (Edge → Bool) → List Edge → ℕ → ℕ → Type 0
+NonePasses test rows from «end» = (k : ℕ) → from ≤ k → k < «end» → test (get_or rows k zero_edge) ≡ false
+
+abbrev pub FirstPasses : (Edge → Bool) → List Edge → ℕ → ℕ → ℕ → Type 0
+FirstPasses test rows from «end» x =
+    (from ≤ x) × (x < «end») × (test (get_or rows x zero_edge) ≡ true) × NonePasses test rows from x
+
+-- The rows before some end.
+module _ (test : Edge → Bool) (rows : List Edge) (from «end» : ℕ) (within : «end» ≤ length rows) where
+  none_at : NonePasses test rows from «end» → (k : ℕ) → from ≤ k → k < «end» → test (row_at rows k) ≡ false
+  none_at fails k l h =
+      let s : k < length rows = omega arith in ap test (get_or_default rows k blank_edge zero_edge s) ∙ fails k l h
+
+  pub found_before : (r : Option ℕ) → MatchOption r (NonePasses test rows from «end») (FirstPasses test rows from «end»)
+      → MatchOption r ((k : ℕ) → from ≤ k → k < «end» → test (row_at rows k) ≡ false) (λ x. first_from test rows from ≡ Some x)
+  found_before None fails = none_at fails
+  found_before (Some x) (l, h, found, before) =
+      let e : from + (x - from) ≡ x = omega arith in
+      let s : x < length rows = omega arith in
+      first_skip test rows (x - from) from
+      (λ k m n o. ap test (get_or_default rows k blank_edge zero_edge o) ∙ before k m (omega arith)) ∙ ap (first_from test rows) e
+      ∙ first_here test rows x s (ap test (get_or_default rows x blank_edge zero_edge s) ∙ found)
+
+-- Over all the rows.
+pub found_first : (test : Edge → Bool) (rows : List Edge) (from : ℕ) (r : Option ℕ)
+    → MatchOption r (NonePasses test rows from (length rows)) (FirstPasses test rows from (length rows)) → r ≡ first_from test rows from
+found_first test rows from None fails =
+    sym (first_skip test rows (length rows) from (λ k l _ h. none_at test rows from (length rows) (omega arith) fails k l h)
+    ∙ first_past test rows (from + length rows) (omega arith))
+found_first test rows from (Some x) found = sym (found_before test rows from (length rows) (omega arith) (Some x) found)
 
 -- ---- from the end of a block to the next that is marked
 

@@ -1,9 +1,12 @@
 -- How far a report has come.
 -- Assumes nothing.
-use Rattle.std.proofs.Common.{◌≡◌, ℕ, ◌+◌, ◌-◌, ◌^◌, ◌<◌, ◌≤◌, Bool, true, false, cond, ◌||◌, eqb, ltb, List, [], map, length, get_or, take, drop, replicate, is_err, Ok, Err, Result, sym, refl, ap, ◌∙◌, subst, inl, inr, arith}
-use Rattle.std.proofs.lemmas.List.{get_or-drop, length-drop, length-append, length-replicate, take-append-drop}
+use Rattle.std.proofs.Common.{◌≡◌, ℕ, ◌+◌, ◌-◌, ◌^◌, ◌<◌, ◌≤◌, Bool, true, false, cond, ◌||◌, eqb, ltb, List, [], map, length, get_or, take, drop, is_err, Ok, Err, Result, sym, refl, ap, ◌∙◌, subst, inl, inr, arith}
+use Rattle.std.proofs.lemmas.List.{get_or-drop, length-drop, length-append, take-append-drop}
 use Rattle.std.proofs.lemmas.Bool.{ltb-true, ltb-false, cases_Bool, cond-true, cond-false, false≢true}
+use Rattle.std.specs.Result.{result_and}
 use Rattle.sorted_list.specs.Lists.{Held, held, opened}
+use Rattle.sorted_list.specs.declared.cause.ListCause.{ListCause}
+use Rattle.sorted_list.specs.declared.cause.ListCause.TheVariants.{Full}
 use Rattle.sorted_list.specs.declared.list.SortedList.{SortedList}
 use Rattle.sorted_list.proofs.Filling.{fills}
 use Rattle.rows.specs.Circles.{blank_row}
@@ -16,15 +19,21 @@ use Rattle.recording.specs.declared.cause.SearchCause.{SearchCause}
 use Rattle.recording.specs.declared.cause.SearchCause.TheVariants.{Budget, Places}
 use Rattle.recording.specs.Chains.{step}
 use Rattle.recording.specs.Enumeration.{row_at, chains, left}
-use Rattle.recording.specs.Answers.{steps_at, circles_given, circles}
-use Rattle.recording.specs.Replies.{reply, listed, reported}
+use Rattle.recording.specs.Answers.{steps_at, circles_given}
+use Rattle.recording.specs.Replies.{reply, reported}
 use Rattle.recording.specs.Walks.{ChainOrNone}
 use Rattle.recording.proofs.Walking.{left_none, left_at}
 use Rattle.recording.proofs.Judging.{held_to, full_to, held_next, full_next, over, too_many, count_few, counted, lists}
 use Rattle.search.specs.declared.stack.Stack.{Stack}
 use Rattle.search.specs.declared.tally.Tally.{Tally}
-use Rattle.search.specs.Stacks.{stacked, places, steps, Stands, Walks}
-use Rattle.search.specs.Tallies.{no_place, with_circle, taken, over_budget, tallied}
+use Rattle.search.specs.Stacks.{stacked, places, steps, Walks}
+use Rattle.search.specs.Tallies.{no_place, entered, with_circle, taken, over_budget, tallied}
+
+-- The first refusal stays.
+refused_once : (r : Result (Unit {0}) ListCause) (b : Bool) → is_err (result_and {U = Unit {0}} r (cond b (Err Full) (Ok tt))) ≡ (is_err r || b)
+refused_once (Ok u) true = refl
+refused_once (Ok u) false = refl
+refused_once (Err e) b = refl
 
 -- The memory of a list is as long as what it holds.
 memory_size : {X : Type 0} (l : SortedList X) (h : Held X) (n : ℕ) → held l ≡ h → length h.records + length h.free ≡ n
@@ -39,13 +48,9 @@ module _ (rows : List Edge) (precedes : ℕ → ℕ → Bool) where
   all = chains rows precedes
 
   -- An empty stack stands before all the chains.
-  module _ (s : Stack) (none : s.depth ≡ 0) (stands : Stands s) where
-    nothing : stacked s ≡ []
-    nothing = ap (λ n. take n s.levels) none
-
+  module _ (s : Stack) (nothing : stacked s ≡ []) where
     pub walks_empty : Walks rows precedes s
     walks_empty = record {
-      stands = stands;
       rows_at = ap (map (λ l. l.edge)) nothing ∙ sym (ap (λ ls. map (row_at rows) (map (λ l. l.place) ls)) nothing);
       chain = subst (ChainOrNone rows precedes) (sym (ap (map (λ l. l.place)) nothing)) tt;
     }
@@ -59,16 +64,16 @@ module _ (rows : List Edge) (precedes : ℕ → ℕ → Bool) where
     pub left_is : left rows precedes (places s) ≡ drop t.chains all
     pub within : t.chains ≤ length all
     pub spent : t.chains ≤ budget
-    pub full_is : t.full ≡ full_to rows precedes n t.chains
+    pub full_is : is_err t.listed ≡ full_to rows precedes n t.chains
     pub held_is : held list ≡ held_to rows precedes n t.chains
 
   module _ (budget n : ℕ) where
-    pub progress_starts : (s : Stack) (t : Tally) (list : SortedList CircleRow) → s.depth ≡ 0 → Stands s
-        → t ≡ record { chains = 0; full = false } → held list ≡ opened blank_row n → Progress budget n s t list
-    progress_starts s t list none stands is nothing =
+    pub progress_starts : (s : Stack) (t : Tally) (list : SortedList CircleRow) → stacked s ≡ []
+        → t ≡ record { chains = 0; listed = Ok tt } → held list ≡ opened blank_row n → Progress budget n s t list
+    progress_starts s t list none is nothing =
         subst (λ u. Progress budget n s u list) (sym is) (record {
-          walks = walks_empty s none stands;
-          left_is = left_empty s none stands;
+          walks = walks_empty s none;
+          left_is = left_empty s none;
           within = omega arith;
           spent = omega arith;
           full_is = refl;
@@ -103,7 +108,7 @@ module _ (rows : List Edge) (precedes : ℕ → ℕ → Bool) where
         steps_are = ap (map step) walks.rows_at ∙ ap (steps_at rows) here
 
         pub progresses : (t' : Tally) (list' : SortedList CircleRow) → k < budget
-            → t' ≡ taken t (no_place (held list) (steps s')) → held list' ≡ with_circle (held list) (steps s')
+            → t' ≡ taken t (entered (held list) (steps s')) → held list' ≡ with_circle (held list) (steps s')
             → Progress budget n s' t' list'
         progresses t' list' room counts holds =
             subst (λ u. Progress budget n s' u list') (sym counts) (record {
@@ -111,7 +116,7 @@ module _ (rows : List Edge) (precedes : ℕ → ℕ → Bool) where
               left_is = ap (left rows precedes) here ∙ left_at rows precedes k more;
               within = omega (arith, more);
               spent = omega arith;
-              full_is = (λ i. p.full_is i || no_place (p.held_is i) (steps_are i)) ∙ sym (full_next rows precedes n k more);
+              full_is = refused_once t.listed (no_place (held list) (steps s')) ∙ (λ i. p.full_is i || no_place (p.held_is i) (steps_are i)) ∙ sym (full_next rows precedes n k more);
               held_is = holds ∙ (λ i. with_circle (p.held_is i) (steps_are i)) ∙ sym (held_next rows precedes n k more);
             })
 
@@ -128,10 +133,10 @@ module _ (rows : List Edge) (precedes : ℕ → ℕ → Bool) where
         inside : length all ≤ budget
         inside = omega (arith, done, p.spent)
 
-        ends_full : t.full ≡ true → reply rows precedes budget n ≡ Err Places
+        ends_full : is_err t.listed ≡ true → reply rows precedes budget n ≡ Err Places
         ends_full e = too_many rows precedes n budget inside (ap (full_to rows precedes n) (sym done) ∙ sym p.full_is ∙ e)
 
-        module _ (e : t.full ≡ false) where
+        module _ (e : is_err t.listed ≡ false) where
           not_full : full_to rows precedes n (length all) ≡ false
           not_full = ap (full_to rows precedes n) (sym done) ∙ sym p.full_is ∙ e
 
@@ -150,35 +155,23 @@ module _ (rows : List Edge) (precedes : ℕ → ℕ → Bool) where
           ends_listed : held list ≡ reported rows precedes budget n
           ends_listed = final ∙ lists rows precedes n budget inside not_full
 
-        pub ends_small : budget < 2 ^ 32 → t.full ≡ false → length (held list).records < 2 ^ 32
+        pub ends_small : budget < 2 ^ 32 → is_err t.listed ≡ false → length (held list).records < 2 ^ 32
         ends_small h e = omega (arith, ends_few e)
 
         pub ends_answer : tallied t (length (held list).records) ≡ reply rows precedes budget n
         ends_answer =
-            elim (cases_Bool t.full) [
-              | inl e ↦ cond-true t.full _ _ e ∙ sym (ends_full e)
-              | inr e ↦ cond-false t.full _ _ e ∙ sym (ends_well e)
+            elim (cases_Bool (is_err t.listed)) [
+              | inl e ↦ cond-true (is_err t.listed) _ _ e ∙ sym (ends_full e)
+              | inr e ↦ cond-false (is_err t.listed) _ _ e ∙ sym (ends_well e)
             ]
 
         pub ends_held : (r : Result Answer SearchCause) → r ≡ tallied t (length (held list).records) → is_err r ≡ false
             → held list ≡ reported rows precedes budget n
         ends_held r is good =
-            elim (cases_Bool t.full) [
-              | inl e ↦ absurd (false≢true (sym good ∙ ap is_err (is ∙ cond-true t.full _ _ e)))
+            elim (cases_Bool (is_err t.listed)) [
+              | inl e ↦ absurd (false≢true (sym good ∙ ap is_err (is ∙ cond-true (is_err t.listed) _ _ e)))
               | inr e ↦ ends_listed e
             ]
-
-pub opened_size : {X : Type 0} (vacant : X) (l : SortedList X) (n : ℕ) → held l ≡ opened vacant n → length l.places.now ≡ n
-opened_size vacant l n is =
-    let long : length (replicate n vacant) ≡ n = length-replicate n vacant in
-    memory_size l (opened vacant n) n is (omega arith)
-
--- What is left of the list once a refused report has blanked it.
-pub settled : (rows : List Edge) (precedes : ℕ → ℕ → Bool) (budget n : ℕ) (r : Result Answer SearchCause) (h : Held CircleRow)
-    → r ≡ reply rows precedes budget n → (is_err r ≡ false → h ≡ reported rows precedes budget n)
-    → cond (is_err r) (opened blank_row n) h ≡ reported rows precedes budget n
-settled rows precedes budget n (Ok a) h is holds = holds refl
-settled rows precedes budget n (Err e) h is holds = ap (λ r. listed r (circles rows precedes) n) is
 
 -- ---- the budget
 

@@ -5,6 +5,7 @@ use native.Mathlib.Nat.{pow-succ', zero-div}
 use lib.Bits.{bit_and, bit_or, and_zero_l}
 use Rattle.std.proofs.lemmas.Bool.{eqb-true, eq-eqb, or_cases, or_left, or_right}
 use Rattle.std.proofs.lemmas.Bool.Decides.{same_from_decides, Decides-like, Decides-and, Decides-eqb}
+use Rattle.std.specs.List.{list_all}
 use Rattle.order.proofs.Words.{or_bit, power_bit}
 use Rattle.rows.specs.Circles.{every}
 use Rattle.rows.specs.Edges.{In, in_set, is_edge}
@@ -14,7 +15,7 @@ use Rattle.recording.specs.Enumeration.{apart}
 use Rattle.recording.specs.Walks.{may_follow}
 use Rattle.recording.proofs.Bitsets.{apart_and, and_apart}
 use Rattle.search.specs.declared.level.Level.{Level}
-use Rattle.search.specs.Levels.{level_after, Seen, blank_level}
+use Rattle.search.specs.Levels.{Seen, blank_level}
 use Rattle.search.specs.Stacks.{unordered}
 
 -- ---- tests joined
@@ -41,6 +42,10 @@ not_or false y = refl
 
 eqb_flip : (a b : ℕ) → eqb a b ≡ eqb b a
 eqb_flip a b = same_from_decides {P = a ≡ b} _ _ (Decides-eqb a b) (Decides-like _ sym sym (Decides-eqb b a))
+
+pub every_is : {X : Type 0} (test : X → Bool) (xs : List X) → list_all test xs ≡ every test xs
+every_is test [] = refl
+every_is test (x ∷ xs) = ap (λ b. test x && b) (every_is test xs)
 
 every_map : {X Y : Type 0} (f : X → Y) (test : Y → Bool) (xs : List X) → every (λ x. test (f x)) xs ≡ every test (map f xs)
 every_map f test [] = refl
@@ -95,14 +100,15 @@ last l ls = get_or (l ∷ ls) (length ls) blank_level
 
 -- A test of what was seen that each edge adds its own part to.
 module _ (test : ℕ → ℕ → Bool) (own : Edge → Bool) (adds : (t g : ℕ) (e : Edge) → test (bit_or t (2 ^ e.thread)) (bit_or g e.guards) ≡ (test t g && own e)) where
-  step_seen : (t g : ℕ) (l : Level) → l ≡ level_after t g l.place l.edge → test l.threads l.guards ≡ (test t g && own l.edge)
-  step_seen t g l is = ap (λ m. test m.threads m.guards) is ∙ adds t g l.edge
+  step_seen : (t g : ℕ) (l : Level) → l.threads ≡ bit_or t (2 ^ l.edge.thread) → l.guards ≡ bit_or g l.edge.guards
+      → test l.threads l.guards ≡ (test t g && own l.edge)
+  step_seen t g l threads guards = (λ i. test (threads i) (guards i)) ∙ adds t g l.edge
 
   all_seen : (t g : ℕ) (l : Level) (ls : List Level) → Seen t g (l ∷ ls)
       → test (last l ls).threads (last l ls).guards ≡ (test t g && every own (edges_in (l ∷ ls)))
-  all_seen t g l [] (is, more) = step_seen t g l is ∙ ap (λ b. test t g && b) (sym (and_comm (own l.edge) true))
-  all_seen t g l (m ∷ ms) (is, more) =
-      all_seen l.threads l.guards m ms more ∙ ap (λ b. b && every own (edges_in (m ∷ ms))) (step_seen t g l is)
+  all_seen t g l [] (threads, (guards, more)) = step_seen t g l threads guards ∙ ap (λ b. test t g && b) (sym (and_comm (own l.edge) true))
+  all_seen t g l (m ∷ ms) (threads, (guards, more)) =
+      all_seen l.threads l.guards m ms more ∙ ap (λ b. b && every own (edges_in (m ∷ ms))) (step_seen t g l threads guards)
       ∙ and_assoc (test t g) (own l.edge) (every own (edges_in (m ∷ ms)))
 
 threads_seen : (l : Level) (ls : List Level) (x : ℕ) → Seen 0 0 (l ∷ ls)

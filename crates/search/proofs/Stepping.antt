@@ -1,7 +1,7 @@
 -- One step of the walk, on a stack.
 -- Assumes nothing.
-use Rattle.std.proofs.Common.{◌≡◌, ℕ, ◌+◌, ◌-◌, ◌<◌, ◌≤◌, Bool, true, false, ltb, List, [], ◌∷◌, ◌++◌, map, length, Some, None, sym, ap, ◌∙◌, subst, arith}
-use Rattle.std.proofs.lemmas.List.{length-map, length_push, nil_from_length}
+use Rattle.std.proofs.Common.{◌≡◌, ℕ, ◌+◌, ◌<◌, ◌≤◌, Bool, true, false, ltb, List, [], ◌∷◌, ◌++◌, map, length, Some, None, sym, ap, ◌∙◌, subst, arith}
+use Rattle.std.proofs.lemmas.List.{length-map, length_push}
 use Rattle.std.proofs.lemmas.Bool.{lt-ltb}
 use Rattle.rows.specs.declared.edge.Edge.{Edge}
 use Rattle.recording.specs.Enumeration.{row_at, IsChainAt, left}
@@ -9,16 +9,17 @@ use Rattle.recording.specs.Walks.{may_follow, first_from, left_from}
 use Rattle.recording.proofs.Firsts.{first_found, first_none}
 use Rattle.recording.proofs.Reporting.{chain_length}
 use Rattle.recording.proofs.Walking.{follows_chain, last_edge, walk_on, walk_back, walk_ends}
+use Rattle.search.specs.declared.level.Level.{Level}
 use Rattle.search.specs.declared.stack.Stack.{Stack}
-use Rattle.search.specs.Stacks.{places, edges, top, Walks}
-use Rattle.search.proofs.Stacking.{size, places_pop, edge_range}
+use Rattle.search.specs.Stacks.{stacked, places, edges, Walks}
+use Rattle.search.proofs.Stacking.{places_pop, edge_range}
 
 pub is_more : {X : Type 0} (x : X) (xs : List X) → ltb 0 (length (x ∷ xs)) ≡ true
 is_more x xs = lt-ltb 0 (length (x ∷ xs)) (omega arith)
 
 module _ (rows : List Edge) (precedes : ℕ → ℕ → Bool) (s : Stack) (w : Walks rows precedes s) where
-  pub places_none : s.depth ≡ 0 → places s ≡ []
-  places_none none = nil_from_length (places s) (length-map _ _ ∙ size s w.stands ∙ none)
+  pub places_none : stacked s ≡ [] → places s ≡ []
+  places_none none = ap (map (λ l. l.place)) none
 
 module _ (rows : List Edge) (precedes : ℕ → ℕ → Bool) (s : Stack) (w : Walks rows precedes s) (from : ℕ) where
   abbrev here : List ℕ
@@ -27,8 +28,8 @@ module _ (rows : List Edge) (precedes : ℕ → ℕ → Bool) (s : Stack) (w : W
   abbrev next : List (List ℕ)
   next = left_from rows precedes (here ++ from ∷ [])
 
-  deep : length here ≡ s.depth
-  deep = length-map _ _ ∙ size s w.stands
+  deep : length here ≡ length (stacked s)
+  deep = length-map _ _
 
   same : (f : Edge) → may_follow precedes (edges s) f ≡ may_follow precedes (map (row_at rows) here) f
   same f = ap (λ es. may_follow precedes es f) w.rows_at
@@ -36,7 +37,7 @@ module _ (rows : List Edge) (precedes : ℕ → ℕ → Bool) (s : Stack) (w : W
   -- The step to a place whose edge may follow.
   pub record Step (x : ℕ) : Type 0 where
     pub within : x < length rows
-    pub room : s.depth < 64
+    pub room : length (stacked s) < 64
     pub thread : (row_at rows x).thread ≤ 63
     pub chain : IsChainAt rows precedes (here ++ x ∷ [])
     pub is : next ≡ (here ++ x ∷ []) ∷ left rows precedes (here ++ x ∷ [])
@@ -60,7 +61,7 @@ module _ (rows : List Edge) (precedes : ℕ → ℕ → Bool) (s : Stack) (w : W
       → may_follow precedes (map (row_at rows) here) (row_at rows x) ≡ false
   none_from e x l h = sym (same (row_at rows x)) ∙ first_none (may_follow precedes (edges s)) rows from e x l h
 
-  pub steps_end : s.depth ≡ 0 → first_from (may_follow precedes (edges s)) rows from ≡ None → next ≡ []
+  pub steps_end : stacked s ≡ [] → first_from (may_follow precedes (edges s)) rows from ≡ None → next ≡ []
   steps_end none e =
       let empty = places_none rows precedes s w none in
       ap (λ ps. left_from rows precedes (ps ++ from ∷ [])) empty
@@ -68,12 +69,12 @@ module _ (rows : List Edge) (precedes : ℕ → ℕ → Bool) (s : Stack) (w : W
       (subst (λ ps. (x : ℕ) → from ≤ x → x < length rows → may_follow precedes (map (row_at rows) ps) (row_at rows x) ≡ false)
       empty (none_from e))
 
-  pub steps_back : (s' : Stack) → 0 < s.depth → s'.levels ≡ s.levels → s'.depth ≡ s.depth - 1
+  pub steps_back : (s' : Stack) (l : Level) → stacked s ≡ stacked s' ++ l ∷ []
       → first_from (may_follow precedes (edges s)) rows from ≡ None
-      → next ≡ left_from rows precedes (places s' ++ ((top s).place + 1) ∷ [])
-  steps_back s' some levels depth e =
-      let split = places_pop s w.stands s' some levels depth in
+      → next ≡ left_from rows precedes (places s' ++ (l.place + 1) ∷ [])
+  steps_back s' l is e =
+      let split = places_pop s (stacked s') l is in
       ap (λ ps. left_from rows precedes (ps ++ from ∷ [])) split
-      ∙ walk_back rows precedes (places s') (top s).place from
+      ∙ walk_back rows precedes (places s') l.place from
       (subst (λ ps. (x : ℕ) → from ≤ x → x < length rows → may_follow precedes (map (row_at rows) ps) (row_at rows x) ≡ false)
       split (none_from e))

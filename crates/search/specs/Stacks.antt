@@ -1,6 +1,6 @@
 -- A stack of edges, which make a chain.
 -- Assumes nothing.
-use Rattle.std.specs.Prelude.{◌≡◌, ℕ, ◌-◌, ◌≤◌, Bool, cond, not, ◌&&◌, List, map, length, take, ◌==◌, slice_index_or}
+use Rattle.std.specs.Prelude.{◌≡◌, ℕ, ◌-◌, Bool, cond, not, ◌&&◌, List, map, length, ◌==◌, slice_index_or}
 use Rattle.rows.specs.declared.edge.Edge.{Edge}
 use Rattle.rows.specs.declared.step.Step.{Step}
 use Rattle.recording.specs.Chains.{step}
@@ -8,10 +8,10 @@ use Rattle.recording.specs.Enumeration.{row_at}
 use Rattle.recording.specs.Walks.{ChainOrNone}
 use Rattle.search.specs.declared.level.Level.{Level}
 use Rattle.search.specs.declared.stack.Stack.{Stack}
-use Rattle.search.specs.Levels.{level_after, blank_level, Seen}
+use Rattle.search.specs.Levels.{level_after, blank_level}
 
 abbrev pub stacked : Stack → List Level
-stacked s = take s.depth s.levels
+stacked s = s.levels.items
 
 abbrev pub places : Stack → List ℕ
 places s = map (λ l. l.place) (stacked s)
@@ -25,24 +25,18 @@ steps s = map step (edges s)
 
 -- The first and the last level.
 abbrev pub first : Stack → Level
-first s = slice_index_or s.levels 0 blank_level
+first s = slice_index_or (stacked s) 0 blank_level
 
 abbrev pub top : Stack → Level
-top s = slice_index_or s.levels (s.depth - 1) blank_level
+top s = slice_index_or (stacked s) (length (stacked s) - 1) blank_level
 
 -- The level for one more edge.
 abbrev pub next_level : Stack → ℕ → Edge → Level
-next_level s p e = cond (s.depth == 0) (level_after 0 0 p e) (level_after (top s).threads (top s).guards p e)
-
--- At most 64 levels, and each has seen what those before it have.
-pub record Stands (s : Stack) : Type 0 where
-  pub long : length s.levels ≡ 64
-  pub within : s.depth ≤ 64
-  pub seen : Seen 0 0 (stacked s)
+next_level s p e =
+    cond (length (stacked s) == 0) (level_after 0 0 p e) (level_after (top s).threads (top s).guards p e)
 
 -- The stack holds a chain over the rows, or nothing.
 pub record Walks (rows : List Edge) (precedes : ℕ → ℕ → Bool) (s : Stack) : Type 0 where
-  pub stands : Stands s
   pub rows_at : edges s ≡ map (row_at rows) (places s)
   pub chain : ChainOrNone rows precedes (places s)
 

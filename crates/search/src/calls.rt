@@ -4,8 +4,7 @@ ghost use Rattle.sorted_list.specs.Lists.{held};
 ghost use Rattle.recording.specs.Replies.{reply, reported};
 ghost use Rattle.search.specs.Promises.{Promised, IsReport, BothAnswered, TellsStops, SameWork};
 
-use crate::reporting::list_circles;
-use crate::same::same_rows;
+use crate::reporting::walk_chains;
 use order::SegmentOrder;
 use recording::{Answer, SearchCause};
 use rows::{CircleRow, Edge};
@@ -26,7 +25,11 @@ pub fn report<O: SegmentOrder>(
     ensures lent { circles.new.places.ghost_name ≡ circles.old.places.ghost_name }
     ensures stops { Promised (held edges.now) (O.meaning order.now) result (held circles.new).records }
 {
-    list_circles(edges, order, budget, circles)
+    let found = walk_chains(edges.records(), order, budget, circles);
+    if found.is_err() {
+        circles.clear();
+    }
+    found
 }
 
 // Two reports, and whether neither is refused and both list the same circles.
@@ -52,7 +55,7 @@ fn agree(
 ) -> bool
     ensures { Decides result (BothAnswered old.now new.now × (old_circles.now ≡ new_circles.now)) }
 {
-    both_answered(old, new) && same_rows(old_circles, new_circles)
+    both_answered(old, new) && old_circles == new_circles
 }
 
 // Makes two reports with one budget, and compares them. The orders may be of different kinds.

@@ -1,11 +1,12 @@
 // The circle of a chain that closes.
-ghost use Rattle.std.specs.Prelude.{◌≡◌, ◌≤◌, ◌&&◌, ◌==◌, nat_le};
+ghost use Rattle.std.specs.Prelude.{◌≡◌};
 ghost use Rattle.recording.specs.Answers.{closed, circle_row};
 ghost use Rattle.recording.specs.Chains.{step};
-ghost use Rattle.search.specs.Stacks.{steps, first, top, Stands};
+ghost use Rattle.search.specs.Stacks.{steps};
 
 use crate::stack::Stack;
 use rows::{CircleRow, Edge, Step};
+use sorted_list::Record;
 
 // The step that an edge gives to a circle.
 fn step_of(edge: &Edge) -> Step
@@ -19,39 +20,25 @@ fn step_of(edge: &Edge) -> Step
 }
 
 impl Stack {
-    // Whether there are two or more edges, and the last wanted lock is the first held lock.
-    fn comes_back(&self) -> bool
-        requires { self.now.depth ≤ 64 }
-        ensures { result ≡ (nat_le 2 self.now.depth && (top self.now).edge.wanted == (first self.now).edge.held) }
-    {
-        self.depth >= 2 && self.levels[self.depth - 1].edge.wanted == self.levels[0].edge.held
-    }
-
-    // Whether the chain closes.
+    // Whether the chain closes: there are two or more edges, and the last wanted lock is the first held lock.
     pub(crate) fn closes(&self) -> bool
-        requires { Stands self.now }
         ensures { result ≡ closed (steps self.now) }
     {
-        self.comes_back()
+        match self.levels.as_slice() {
+            [first, .., top] => top.edge.wanted == first.edge.held,
+            _ => false,
+        }
     }
 
     // The row of the circle that a closed chain gives.
     pub(crate) fn circle(&self) -> CircleRow
-        requires { Stands self.now }
         ensures { result ≡ circle_row (steps self.now) }
     {
-        let none = Step {
-            thread: 0,
-            held: 0,
-            wanted: 0,
-        };
-        let mut steps = [none; 64];
-        for i in 0..self.depth {
-            steps[i] = step_of(&self.levels[i].edge);
+        let mut circle = CircleRow::blank();
+        circle.count = self.levels.len() as u8;
+        for (i, level) in self.levels.iter().enumerate() {
+            circle.steps[i] = step_of(&level.edge);
         }
-        CircleRow {
-            count: self.depth as u8,
-            steps,
-        }
+        circle
     }
 }

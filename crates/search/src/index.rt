@@ -1,5 +1,5 @@
 // Which edges hold a lock, without walking past all others.
-ghost use Rattle.std.specs.Prelude.{◌≡◌, ℕ, ◌+◌, ◌*◌, ◌/◌, ◌^◌, ◌<◌, ◌≤◌, min, true, false, ◌&&◌, ◌||◌, length, ◌==◌, bit_or};
+ghost use Rattle.std.specs.Prelude.{◌≡◌, ℕ, ◌+◌, ◌*◌, ◌/◌, ◌^◌, ◌<◌, ◌≤◌, min, true, false, ◌&&◌, ◌||◌, length, ◌==◌, bit_or, MatchOption};
 ghost use Rattle.recording.specs.Enumeration.{row_at};
 ghost use Rattle.recording.specs.Walks.{first_from};
 ghost use Rattle.rows.specs.Edges.{is_edge};
@@ -30,19 +30,13 @@ fn with_block(word: u64, block: usize) -> u64
     word | 1 << block
 }
 
-// The first place from one place on and before another whose row is an edge that holds the lock, or that other place.
-fn scan(rows: &[Edge], lock: u8, from: usize, end: usize) -> usize
+// The first place from one place on and before another whose row is an edge that holds the lock.
+fn scan(rows: &[Edge], lock: u8, from: usize, end: usize) -> Option<usize>
     requires { (from ≤ «end») × («end» ≤ length rows.now) }
-    ensures within { (from ≤ result) × (result ≤ «end») }
-    ensures before { (k : ℕ) → from ≤ k → k < result → holding lock (row_at rows.now k) ≡ false }
-    ensures found { result < «end» → holding lock (row_at rows.now result) ≡ true }
+    ensures { MatchOption result ((k : ℕ) → from ≤ k → k < «end» → holding lock (row_at rows.now k) ≡ false)
+        (λ place. first_from (holding lock) rows.now from ≡ Some place) }
 {
-    for i in from..end {
-        if holds(&rows[i], lock) {
-            return i;
-        }
-    }
-    end
+    (from..end).find(|place| holds(&rows[*place], lock))
 }
 
 impl Index {
@@ -55,8 +49,8 @@ impl Index {
             size,
             blocks: [0; 64],
         };
-        for i in 0..rows.len() {
-            index.add(&rows[i], i / size);
+        for (i, edge) in rows.iter().enumerate() {
+            index.add(edge, i / size);
         }
         index
     }
@@ -73,16 +67,15 @@ impl Index {
         }
     }
 
-    // The first marked block from a block on, or none below 64.
-    fn next_block(&self, lock: u8, block: usize) -> usize
+    // The first marked block from a block on.
+    fn next_block(&self, lock: u8, block: usize) -> Option<usize>
         requires { (lock ≤ 63) × (block ≤ 64) }
-        ensures since { block ≤ result }
-        ensures skips { (b : ℕ) → block ≤ b → b < result → b < 64 → mark self.now lock b ≡ false }
+        ensures { MatchOption result ((b : ℕ) → block ≤ b → b < 64 → mark self.now lock b ≡ false)
+            (λ next. (block ≤ next) × (next < 64) × ((b : ℕ) → block ≤ b → b < next → mark self.now lock b ≡ false)) }
     {
-        if block == 64 {
-            return 64;
-        }
-        block + (self.blocks[lock as usize] >> block).trailing_zeros() as usize
+        let later = self.blocks[lock as usize].checked_shr(block as u32)?;
+        let next = block + later.trailing_zeros() as usize;
+        (next < 64).then_some(next)
     }
 
     // The first place from a place on whose row is an edge that holds the lock.
@@ -93,15 +86,10 @@ impl Index {
         let mut at = from;
         while at < rows.len() {
             let end = self.end_of_block(at, rows.len());
-            let place = scan(rows, lock, at, end);
-            if place < end {
+            if let Some(place) = scan(rows, lock, at, end) {
                 return Some(place);
             }
-            let block = self.next_block(lock, at / self.size + 1);
-            if block >= 64 {
-                return None;
-            }
-            at = block * self.size;
+            at = self.next_block(lock, at / self.size + 1)? * self.size;
         }
         None
     }

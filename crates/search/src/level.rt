@@ -2,8 +2,11 @@
 ghost use Rattle.std.specs.Prelude.{◌≡◌, ◌≤◌, not, ◌==◌, bit_and};
 ghost use Rattle.rows.specs.Edges.{in_set};
 ghost use Rattle.search.specs.Levels.{level_after};
+ghost use Rattle.search.specs.Stacks.{unordered};
 
+use order::SegmentOrder;
 use rows::Edge;
+use sorted_list::Record;
 
 // The edge at a place, and the threads and the guards of the chain up to it, as sets in which i is bit i.
 #[derive(Clone, Copy)]
@@ -12,6 +15,18 @@ pub(crate) struct Level {
     pub(crate) edge: Edge,
     pub(crate) threads: u64,
     pub(crate) guards: u64,
+}
+
+// What stands where no edge was put.
+impl Default for Level {
+    fn default() -> Level {
+        Level {
+            place: 0,
+            edge: Edge::blank(),
+            threads: 0,
+            guards: 0,
+        }
+    }
 }
 
 impl Level {
@@ -41,5 +56,13 @@ impl Level {
         ensures { result ≡ not (bit_and self.now.guards guards == 0) }
     {
         self.guards & guards != 0
+    }
+
+    // Whether neither the edge's segment nor the other one precedes the other.
+    pub(crate) fn is_parallel<O: SegmentOrder>(&self, order: &O, segment: u16) -> bool
+        ensures { result ≡ unordered (O.meaning order.now).before self.now.edge.segment segment }
+    {
+        let own = self.edge.segment;
+        !order.precedes(own, segment) && !order.precedes(segment, own)
     }
 }

@@ -6,7 +6,6 @@ mod closing;
 mod index;
 mod level;
 mod reporting;
-mod same;
 mod stack;
 mod tally;
 mod walk;

@@ -1,5 +1,5 @@
 // The walk from chain to chain.
-ghost use Rattle.std.specs.Prelude.{◌≡◌, ◌<◌, [], length, nat_lt, slice_index_or};
+ghost use Rattle.std.specs.Prelude.{◌≡◌, [], length, nat_lt, slice_index_or};
 ghost use Rattle.recording.specs.Enumeration.{left};
 ghost use Rattle.recording.specs.Walks.{may_follow, first_from};
 ghost use Rattle.rows.specs.Edges.{is_edge};
@@ -15,32 +15,43 @@ use rows::Edge;
 fn next_edge(rows: &[Edge], from: usize) -> Option<usize>
     ensures { result ≡ first_from is_edge rows.now from }
 {
-    for i in from..rows.len() {
-        if rows[i].is_edge() {
-            return Some(i);
+    (from..rows.len()).find(|place| rows[*place].is_edge())
+}
+
+// The rows, the order of their segments, and an index of the rows.
+#[derive(Drop)]
+pub(crate) struct Graph<'a, O> {
+    rows: &'a [Edge],
+    order: &'a O,
+    index: Index,
+    ghost indexed: { Indexes rows.now index },
+}
+
+impl<'a, O: SegmentOrder> Graph<'a, O> {
+    pub(crate) fn build(rows: &'a [Edge], order: &'a O) -> Graph<'a, O>
+        ensures rows { result.rows.now ≡ rows.now }
+        ensures order { result.order.now ≡ order.now }
+    {
+        Graph {
+            rows,
+            order,
+            index: Index::build(rows),
         }
     }
-    None
 }
 
 impl Stack {
-    // The first place from a place on whose edge may go on the chain, which has one or more edges.
-    fn next_following<O: SegmentOrder>(
-        &self,
-        rows: &[Edge],
-        index: &Index,
-        order: &O,
-        from: usize,
-    ) -> Option<usize>
-        requires some { 0 < self.now.depth }
-        requires indexed { Indexes rows.now index.now }
-        requires walks { Walks rows.now (O.meaning order.now).before self.now }
-        ensures { result ≡ first_from (may_follow (O.meaning order.now).before (edges self.now)) rows.now from }
+    // The first place from a place on whose edge may go on the chain, or begin one.
+    fn next_fitting<O: SegmentOrder>(&self, graph: &Graph<'_, O>, from: usize) -> Option<usize>
+        requires { Walks graph.now.rows.now (O.meaning graph.now.order.now).before self.now }
+        ensures { result ≡ first_from (may_follow (O.meaning graph.now.order.now).before (edges self.now)) graph.now.rows.now from }
     {
-        let wanted = self.levels[self.depth - 1].edge.wanted;
+        let Some(top) = self.levels.last() else {
+            return next_edge(graph.rows, from);
+        };
         let mut at = from;
-        while let Some(place) = index.next_holding(rows, wanted, at) {
-            if self.fits(order, &rows[place]) {
+        while let Some(place) = graph.index.next_holding(graph.rows, top.edge.wanted, at) {
+            if self.fits(graph.order, &graph.rows[place]) {
                 return Some(place);
             }
             at = place + 1;
@@ -48,48 +59,24 @@ impl Stack {
         None
     }
 
-    // The first place from a place on whose edge may go on the chain, or begin one.
-    fn next_fitting<O: SegmentOrder>(
-        &self,
-        rows: &[Edge],
-        index: &Index,
-        order: &O,
-        from: usize,
-    ) -> Option<usize>
-        requires indexed { Indexes rows.now index.now }
-        requires walks { Walks rows.now (O.meaning order.now).before self.now }
-        ensures { result ≡ first_from (may_follow (O.meaning order.now).before (edges self.now)) rows.now from }
-    {
-        if self.depth == 0 {
-            return next_edge(rows, from);
-        }
-        self.next_following(rows, index, order, from)
-    }
-
     // Goes on to the next chain, if there is one: the first that goes on from this one, or else the first with a larger place at
     // the last level that has one.
-    pub(crate) fn next_chain<O: SegmentOrder>(
-        &mut self,
-        rows: &[Edge],
-        index: &Index,
-        order: &O,
-    ) -> bool
-        requires indexed { Indexes rows.now index.now }
-        requires walks { Walks rows.now (O.meaning order.now).before self.old }
-        ensures more { result ≡ nat_lt 0 (length (left rows.now (O.meaning order.now).before (places self.old))) }
-        ensures next { places self.new ≡ slice_index_or (left rows.now (O.meaning order.now).before (places self.old)) 0 [] }
-        ensures walks { Walks rows.now (O.meaning order.now).before self.new }
+    pub(crate) fn next_chain<O: SegmentOrder>(&mut self, graph: &Graph<'_, O>) -> bool
+        requires { Walks graph.now.rows.now (O.meaning graph.now.order.now).before self.old }
+        ensures more { result ≡ nat_lt 0 (length (left graph.now.rows.now (O.meaning graph.now.order.now).before (places self.old))) }
+        ensures next { places self.new ≡ slice_index_or (left graph.now.rows.now (O.meaning graph.now.order.now).before (places self.old)) 0 [] }
+        ensures walks { Walks graph.now.rows.now (O.meaning graph.now.order.now).before self.new }
     {
         let mut from = 0;
         loop {
-            if let Some(place) = self.next_fitting(rows, index, order, from) {
-                self.push(place, rows[place]);
+            if let Some(place) = self.next_fitting(graph, from) {
+                self.push(place, graph.rows[place]);
                 return true;
             }
-            if self.is_empty() {
+            let Some(top) = self.pop() else {
                 return false;
-            }
-            from = self.pop() + 1;
+            };
+            from = top.place + 1;
         }
     }
 }

@@ -1,6 +1,7 @@
 use Rattle.std.proofs.Common.{◌≡◌, ◌<◌, false, eqb, length, Err, sym, refl, ap, ◌∙◌, arith}
 use Rattle.std.proofs.lemmas.Result.{err_from_is_err_and}
 use Rattle.std.proofs.lemmas.Bool.{eqb-true, eqb-false, cond-true, cond-false, false≢true}
+use Rattle.recording.specs.Replies.{reply, reported}
 use Rattle.search.proofs.Counting.{
   progress_starts,
   progresses,
@@ -14,76 +15,77 @@ use Rattle.search.proofs.Counting.{
 }
 use Rattle.search.proofs.reporting.walk_chains.Goals as goal
 
-pub loop-index-init : goal.loop-index-init
-loop-index-init g c = (
-  c.build-index.ensures,
-  progress_starts c.args.rows.now (g.O.SegmentOrder.meaning c.args.order.now).before c.args.budget
-      (length c.args.circles.now.places.now) c.empty-stack.result c.start-tally.result c.args.circles.now
-      c.empty-stack.ensures.0 c.empty-stack.ensures.1 c.start-tally.ensures c.requires,
-  refl,
+pub loop-graph-init : goal.loop-graph-init
+loop-graph-init g c = (
+  progress_starts c.build-graph.result.rows.now (g.O.SegmentOrder.meaning c.build-graph.result.order.now).before c.args.budget
+      (length c.args.circles.now.places.now) c.empty-stack.result c.start-tally.result c.clear.new.self
+      c.empty-stack.ensures c.start-tally.ensures c.clear.ensures.holds,
+  c.clear.ensures.lent,
 )
 
-pub loop-index-preserved : goal.loop-index-preserved
-loop-index-preserved g c =
-    let rows = c.args.rows.now in
-    let before = (g.O.SegmentOrder.meaning c.args.order.now).before in
+pub loop-graph-preserved : goal.loop-graph-preserved
+loop-graph-preserved g c =
+    let rows = c.build-graph.result.rows.now in
+    let before = (g.O.SegmentOrder.meaning c.build-graph.result.order.now).before in
     let n = length c.args.circles.now.places.now in
-    let t = c.loop-index.tally in
-    let p = c.loop-index.invariant.1 in
-    let next = c.loop-index-test.ensures in
+    let t = c.loop-graph.tally in
+    let p = c.loop-graph.invariant.0 in
+    let next = c.loop-graph-test.ensures in
     let take = c.take.ensures in
     let under : eqb t.chains c.args.budget ≡ false =
     not_over t c.args.budget (sym take.answers ∙ c.in_ok-take.was) in
     let room : t.chains < c.args.budget = omega (arith, eqb-false t.chains c.args.budget under, p.spent) in (
-      c.loop-index.invariant.0,
-      progresses rows before c.args.budget n c.loop-index.stack t c.loop-index.circles p c.next_chain.new.self
+      progresses rows before c.args.budget n c.loop-graph.stack t c.loop-graph.circles p c.next_chain.new.self
           next.more next.next next.walks c.take.new.self c.take.new.circles room
           (take.counts ∙ cond-false (eqb t.chains c.args.budget) _ _ under)
           (take.holds ∙ cond-false (eqb t.chains c.args.budget) _ _ under),
-      take.lent ∙ c.loop-index.invariant.2,
+      take.lent ∙ c.loop-graph.invariant.1,
     )
 
 pub returns-in_err-take : goal.returns-in_err-take
 returns-in_err-take g c =
-    let rows = c.args.rows.now in
-    let before = (g.O.SegmentOrder.meaning c.args.order.now).before in
+    let rows = c.build-graph.result.rows.now in
+    let before = (g.O.SegmentOrder.meaning c.build-graph.result.order.now).before in
     let n = length c.args.circles.now.places.now in
-    let t = c.loop-index.tally in
-    let p = c.loop-index.invariant.1 in
-    let next = c.loop-index-test.ensures in
+    let t = c.loop-graph.tally in
+    let p = c.loop-graph.invariant.0 in
+    let next = c.loop-graph-test.ensures in
     let take = c.take.ensures in
     let out = err_from_is_err_and c.from_residual.result c.from_residual.ensures.1 in
     let (spent, is) = is_over t c.args.budget c.in_err-take.field-0.0 (sym take.answers ∙ c.in_err-take.was) in
     let full = eqb-true t.chains c.args.budget spent in
     let same = take.holds ∙ cond-true (eqb t.chains c.args.budget) _ _ spent in
     record {
-      answers = out.1 ∙ ap Err (out.2 ∙ is) ∙ sym (overspent rows before c.args.budget n c.loop-index.stack t c.loop-index.circles p
-          c.next_chain.new.self next.more next.next next.walks full);
+      answers = out.1 ∙ ap Err (out.2 ∙ is) ∙ sym (overspent rows before c.args.budget n c.loop-graph.stack t c.loop-graph.circles p
+          c.next_chain.new.self next.more next.next next.walks full)
+          ∙ (λ i. reply (c.build-graph.ensures.rows i) (g.O.SegmentOrder.meaning (c.build-graph.ensures.order i)).before c.args.budget n);
       holds = λ e. absurd (false≢true (sym e ∙ c.from_residual.ensures.0));
-      size = memory_long rows before c.args.budget n c.loop-index.stack t c.loop-index.circles p c.take.new.circles same;
-      lent = take.lent ∙ c.loop-index.invariant.2;
+      size = memory_long rows before c.args.budget n c.loop-graph.stack t c.loop-graph.circles p c.take.new.circles same;
+      lent = take.lent ∙ c.loop-graph.invariant.1;
     }
 
 pub answer-requires : goal.answer-requires
 answer-requires g c =
-    let before = (g.O.SegmentOrder.meaning c.args.order.now).before in
+    let before = (g.O.SegmentOrder.meaning c.build-graph.result.order.now).before in
     let n = length c.args.circles.now.places.now in
-    ends_small c.args.rows.now before c.args.budget n c.loop-index.stack c.loop-index.tally c.loop-index.circles
-    c.loop-index.invariant.1 c.loop-index-test.ensures.more (omega arith)
+    ends_small c.build-graph.result.rows.now before c.args.budget n c.loop-graph.stack c.loop-graph.tally c.loop-graph.circles
+    c.loop-graph.invariant.0 c.loop-graph-test.ensures.more (omega arith)
 
 pub returns : goal.returns
 returns g c =
-    let rows = c.args.rows.now in
-    let before = (g.O.SegmentOrder.meaning c.args.order.now).before in
+    let rows = c.build-graph.result.rows.now in
+    let before = (g.O.SegmentOrder.meaning c.build-graph.result.order.now).before in
     let n = length c.args.circles.now.places.now in
-    let s = c.loop-index.stack in
-    let t = c.loop-index.tally in
-    let list = c.loop-index.circles in
-    let p = c.loop-index.invariant.1 in
-    let none = c.loop-index-test.ensures.more in
+    let s = c.loop-graph.stack in
+    let t = c.loop-graph.tally in
+    let list = c.loop-graph.circles in
+    let p = c.loop-graph.invariant.0 in
+    let none = c.loop-graph-test.ensures.more in
     record {
-      answers = c.answer.ensures ∙ ends_answer rows before c.args.budget n s t list p none;
-      holds = ends_held rows before c.args.budget n s t list p none c.answer.result c.answer.ensures;
+      answers = c.answer.ensures ∙ ends_answer rows before c.args.budget n s t list p none
+          ∙ (λ i. reply (c.build-graph.ensures.rows i) (g.O.SegmentOrder.meaning (c.build-graph.ensures.order i)).before c.args.budget n);
+      holds = λ e. ends_held rows before c.args.budget n s t list p none c.answer.result c.answer.ensures e
+          ∙ (λ i. reported (c.build-graph.ensures.rows i) (g.O.SegmentOrder.meaning (c.build-graph.ensures.order i)).before c.args.budget n);
       size = memory_long rows before c.args.budget n s t list p list refl;
-      lent = c.loop-index.invariant.2;
+      lent = c.loop-graph.invariant.1;
     }

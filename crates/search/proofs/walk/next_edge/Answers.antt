@@ -1,22 +1,13 @@
-use Rattle.std.proofs.Common.{sym, ap, ◌∙◌, arith}
-use Rattle.rows.specs.Edges.{is_edge, blank_edge}
-use Rattle.std.proofs.lemmas.List.{get_or_default}
-use Rattle.recording.proofs.Firsts.{first_past, first_here, first_on}
+use Rattle.std.proofs.Common.{◌≡◌, true, false, get_or, rules}
+use borrow.Author.Tests.{tests}
+use Rattle.std.proofs.lemmas.Iterator.{first_from_Range}
+use Rattle.rows.specs.Edges.{is_edge}
+use Rattle.search.proofs.Blocks.{zero_edge, found_first}
 use Rattle.search.proofs.walk.next_edge.Goals as goal
 
-pub returns-then-is_edge : goal.returns-then-is_edge
-returns-then-is_edge c =
-    let rows = c.args.rows.now in
-    let h = c.loop-i-test.true in
-    sym (c.loop-i.invariant ∙ first_here is_edge rows c.loop-i.i h
-    (ap is_edge (get_or_default rows c.loop-i.i blank_edge _ h) ∙ sym c.if-is_edge.ensures.value))
-
-pub loop-i-preserved : goal.loop-i-preserved
-loop-i-preserved c =
-    let rows = c.args.rows.now in
-    let h = c.loop-i-test.true in
-    c.loop-i.invariant ∙ first_on is_edge rows c.loop-i.i h
-    (ap is_edge (get_or_default rows c.loop-i.i blank_edge _ h) ∙ sym c.if-is_edge.ensures.value)
-
 pub returns : goal.returns
-returns c = sym (c.loop-i.invariant ∙ first_past is_edge c.args.rows.now c.loop-i.i (omega arith))
+returns c =
+    let rows = c.args.rows.now in
+    found_first is_edge rows c.args.from c.find.result
+    (first_from_Range _ _ _ c.find.result (λ x. is_edge (get_or rows x zero_edge) ≡ true)
+    (λ x. is_edge (get_or rows x zero_edge) ≡ false) c.find.ensures.ran (λ x q k. search (rules, tests)) (λ x q k. search (rules, tests)))

@@ -1,10 +1,8 @@
-use Rattle.std.proofs.Common.{get_or, arith}
-use Rattle.search.proofs.Blocks.{skipped}
+use Rattle.std.proofs.Common.{get_or}
+use Rattle.search.proofs.Blocks.{next_bit}
 use Rattle.search.proofs.index.Index.next_block.Goals as goal
 
 pub returns : goal.returns
 returns c =
-    record {
-      since = omega arith;
-      skips = λ b l h k. skipped (get_or c.args.self.now.blocks c.args.lock 0) c.args.block b l h;
-    }
+    next_bit (get_or c.args.self.now.blocks c.args.lock 0) c.args.block c.in_ok-later.later c.then_some.result
+    c.in_ok-later.ensures.1 c.then_some.ensures
