@@ -36,7 +36,7 @@ refused_once (Ok u) false = refl
 refused_once (Err e) b = refl
 
 -- The memory of a list is as long as what it holds.
-memory_size : {X : Type 0} (l : SortedList X) (h : Held X) (n : ℕ) → held l ≡ h → length h.records + length h.free ≡ n
+memory_size : {X : Type 0} {r : _} (l : SortedList X r) (h : Held X) (n : ℕ) → held l ≡ h → length h.records + length h.free ≡ n
     → length l.places.now ≡ n
 memory_size l h n is size =
     let m = l.places.now in
@@ -59,7 +59,7 @@ module _ (rows : List Edge) (precedes : ℕ → ℕ → Bool) where
     left_empty = ap (left rows precedes) (ap (map (λ l. l.place)) nothing) ∙ left_none rows precedes
 
   -- The stack stands at the last of the chains that were counted, and the list holds the circles of these.
-  pub record Progress (budget n : ℕ) (s : Stack) (t : Tally) (list : SortedList CircleRow) : Type 0 where
+  pub record Progress (budget n : ℕ) (s : Stack) (t : Tally) {r : _} (list : SortedList CircleRow r) : Type 0 where
     pub walks : Walks rows precedes s
     pub left_is : left rows precedes (places s) ≡ drop t.chains all
     pub within : t.chains ≤ length all
@@ -68,7 +68,7 @@ module _ (rows : List Edge) (precedes : ℕ → ℕ → Bool) where
     pub held_is : held list ≡ held_to rows precedes n t.chains
 
   module _ (budget n : ℕ) where
-    pub progress_starts : (s : Stack) (t : Tally) (list : SortedList CircleRow) → stacked s ≡ []
+    pub progress_starts : (s : Stack) (t : Tally) {r : _} (list : SortedList CircleRow r) → stacked s ≡ []
         → t ≡ record { chains = 0; listed = Ok tt } → held list ≡ opened blank_row n → Progress budget n s t list
     progress_starts s t list none is nothing =
         subst (λ u. Progress budget n s u list) (sym is) (record {
@@ -80,14 +80,14 @@ module _ (rows : List Edge) (precedes : ℕ → ℕ → Bool) where
           held_is = nothing;
         })
 
-    module _ (s : Stack) (t : Tally) (list : SortedList CircleRow) (p : Progress budget n s t list) where
+    module _ (s : Stack) (t : Tally) {r : _} (list : SortedList CircleRow r) (p : Progress budget n s t list) where
       abbrev k : ℕ
       k = t.chains
 
       rest_size : length (left rows precedes (places s)) ≡ length all - k
       rest_size = ap length p.left_is ∙ length-drop k all
 
-      pub memory_long : (list' : SortedList CircleRow) → held list' ≡ held list → length list'.places.now ≡ n
+      pub memory_long : (list' : SortedList CircleRow r) → held list' ≡ held list → length list'.places.now ≡ n
       memory_long list' same =
           memory_size list' (held_to rows precedes n k) n (same ∙ p.held_is)
           (fills rank_row row_order blank_row n (circles_given rows (take k all))).size
@@ -107,7 +107,7 @@ module _ (rows : List Edge) (precedes : ℕ → ℕ → Bool) where
         steps_are : steps s' ≡ steps_at rows (get_or all k [])
         steps_are = ap (map step) walks.rows_at ∙ ap (steps_at rows) here
 
-        pub progresses : (t' : Tally) (list' : SortedList CircleRow) → k < budget
+        pub progresses : (t' : Tally) (list' : SortedList CircleRow r) → k < budget
             → t' ≡ taken t (entered (held list) (steps s')) → held list' ≡ with_circle (held list) (steps s')
             → Progress budget n s' t' list'
         progresses t' list' room counts holds =
