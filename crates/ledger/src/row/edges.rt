@@ -59,14 +59,15 @@ impl Row {
         let _ = edges.add(self.edge(t, o, h));
     }
 
-    // Adds an edge for each held lock. A loop, since each turn writes to the list that the last one left.
+    // Adds an edge for each held lock. Here the project's form is a `for` with an index over the locks.
     pub(crate) fn draw(&self, edges: &mut SortedList<'_, Edge>, t: Index, o: Index)
         ensures drawn { records_held edges.new
             ≡ drawn_into (records_held edges.old) (edges_from self.now t o) }
         ensures lent { edges.new.places.ghost_name ≡ edges.old.places.ghost_name }
     {
-        for h in self.locks.as_slice() {
-            self.draw_edge(edges, t, o, *h);
+        let held = self.locks.as_slice();
+        for i in 0..held.len() {
+            self.draw_edge(edges, t, o, held[i]);
         }
     }
 }
