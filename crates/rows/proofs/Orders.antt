@@ -1,12 +1,12 @@
 -- How rows are compared: by one field after the other, which is by their places.
 -- Assumes nothing.
-use Rattle.std.specs.Prelude.{◌≡◌, refl}
+use Rattle.std.specs.Prelude.{◌≡◌, ℕ, List, [], ◌∷◌, map, refl}
 use Rattle.std.specs.declared.cmp.Ordering.TheVariants.{Less, Equal, Greater}
 use Rattle.std.specs.declared.cmp.Ordering.{Ordering}
 use Rattle.std.specs.Cmp.Derive.Mapped.{lex_map}
 use Rattle.std.specs.Cmp.Lexicographic.{slice_cmp}
 use Rattle.std.specs.Ordering.{ordering_then, nat_cmp}
-use Rattle.std.proofs.Common.{sym, ap, ◌∙◌}
+use Rattle.std.proofs.Common.{sym, ap, ◌∙◌, arith}
 use Rattle.rows.specs.Orders.{step_places, rank_step, rank_row}
 use Rattle.rows.specs.declared.row.CircleRow.{CircleRow}
 use Rattle.rows.specs.declared.step.Step.{Step}
@@ -23,7 +23,24 @@ pub step_ranked : (s z : Step) → by_fields s z ≡ rank_step s z
 step_ranked s z =
     ap (λ o. ordering_then (nat_cmp s.thread z.thread) (ordering_then (nat_cmp s.held z.held) o)) (then_equal (nat_cmp s.wanted z.wanted))
 
+-- what the comparison of two arrays of steps answers
+pub steps_ranked : (xs ys : List Step)
+    → slice_cmp rank_step xs ys ≡ slice_cmp (slice_cmp nat_cmp) (map step_places xs) (map step_places ys)
+steps_ranked xs ys = sym (lex_map step_places (slice_cmp nat_cmp) xs ys)
+
 pub row_ranked : (a b : CircleRow) → ordering_then (nat_cmp a.count b.count) (slice_cmp by_fields a.steps b.steps) ≡ rank_row a b
 row_ranked a b =
-    let steps = ap (λ R. slice_cmp R a.steps b.steps) (λ i s z. step_ranked s z i) ∙ sym (lex_map step_places (slice_cmp nat_cmp) a.steps b.steps) in
+    let steps = ap (λ R. slice_cmp R a.steps b.steps) (λ i s z. step_ranked s z i) ∙ steps_ranked a.steps b.steps in
     λ i. ordering_then (then_equal (nat_cmp a.count b.count) i) (steps i)
+
+-- equal in all places
+pub lex_same : {K : Type 0} {R : K → K → Ordering} → ((x y : K) → R x y ≡ Equal → x ≡ y) → (xs ys : List K) → slice_cmp R xs ys ≡ Equal → xs ≡ ys
+lex_same same [] [] e = refl
+lex_same same [] (y ∷ ys) e = let z : ◌≡◌ {A = ℕ} 0 1 = cc in absurd (omega arith)
+lex_same same (x ∷ xs) [] e = let z : ◌≡◌ {A = ℕ} 0 1 = cc in absurd (omega arith)
+lex_same {R = R} same (x ∷ xs) (y ∷ ys) e = go (R x y) refl e (lex_same {R = R} same xs ys)
+  where
+    go : (k : Ordering) → R x y ≡ k → ordering_then k (slice_cmp R xs ys) ≡ Equal → (slice_cmp R xs ys ≡ Equal → xs ≡ ys) → x ∷ xs ≡ y ∷ ys
+    go Less f g ih = let z : ◌≡◌ {A = ℕ} 0 1 = cc in absurd (omega arith)
+    go Equal f g ih = λ i. same x y f i ∷ ih g i
+    go Greater f g ih = let z : ◌≡◌ {A = ℕ} 0 1 = cc in absurd (omega arith)

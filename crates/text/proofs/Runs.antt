@@ -1,10 +1,11 @@
 -- The run of digits at the front of some bytes.
 -- Assumes nothing.
-use Rattle.std.proofs.Common.{◌≡◌, ℕ, zero, suc, ◌<◌, ◌≤◌, true, false, cond, List, [], ◌∷◌, ◌++◌, length, get_or, take, refl, ap, ◌∙◌, subst, add-one, arith}
-use Rattle.std.specs.Str.Parse.{AllDigits}
+use Rattle.std.proofs.Common.{◌≡◌, ℕ, zero, suc, ◌-◌, ◌^◌, ◌<◌, ◌≤◌, true, false, cond, List, [], ◌∷◌, ◌++◌, length, get_or, take, refl, ap, ◌∙◌, subst, add-one, arith}
+use Rattle.std.specs.Str.Parse.{AllDigits, digits_value}
 use Rattle.std.specs.Char.{is_ascii_digit, digit_value}
 use Rattle.std.specs.List.{prefix_len}
-use Rattle.std.proofs.lemmas.Int.Digits.{digits_more}
+use Rattle.std.proofs.lemmas.Int.Digits.{digits_more, digits_value-lt}
+use Rattle.std.proofs.lemmas.List.{length-take-le}
 use Rattle.std.proofs.lemmas.List.Recursion.{same_from_clauses}
 use Rattle.std.proofs.lemmas.List.Sums.{prefix_len-le-length, prefix_len_passes}
 use Rattle.std.proofs.lemmas.Str.Parse.{digit_from_value}
@@ -40,6 +41,22 @@ run_digits bs (suc i) h =
     let at : i < run bs = omega arith in
     let more : i < length bs = omega (arith, run_within bs) in
     subst (λ n. AllDigits 10 (take n bs)) (add-one i) (digits_more 10 bs i more (run_digits bs i (omega arith)) (digit_below_ten (get_or bs i 0) (run_at bs i at)))
+
+pub run_value : (bs : List ℕ) (i : ℕ) → i ≤ run bs → digits_value 10 (take i bs) < 10 ^ i
+run_value bs i h =
+    let long : length (take i bs) ≡ i = length-take-le i bs (omega (arith, run_within bs)) in
+    rw long at (digits_value-lt 10 (take i bs) (run_digits bs i h))
+
+-- a digit of a run stands for its distance from the digit 0
+pub run_digit : (bs : List ℕ) (i : ℕ) → i < run bs → (48 ≤ get_or bs i 0) × (get_or bs i 0 ≤ 57) × (digit_value (get_or bs i 0) ≡ get_or bs i 0 - 48)
+run_digit bs i h = let d = run_at bs i h in (grind (arith, nat_tests), grind (arith, nat_tests), grind (arith, nat_tests))
+
+-- up to two digits of a run
+pub run_few : (bs : List ℕ) (i : ℕ) → i ≤ run bs → i < 3 → digits_value 10 (take i bs) < 100
+run_few bs zero h k = omega (arith, run_value bs 0 h)
+run_few bs (suc zero) h k = omega (arith, run_value bs 1 h)
+run_few bs (suc (suc zero)) h k = run_value bs 2 h
+run_few bs (suc (suc (suc i))) h k = absurd (omega arith)
 
 -- digits that no further digit follows
 pub run_append : (ds rest : List ℕ) → AllDigits 10 ds → is_ascii_digit (get_or rest 0 0) ≡ false → run (ds ++ rest) ≡ length ds
