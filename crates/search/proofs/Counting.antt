@@ -23,7 +23,7 @@ use Rattle.recording.specs.Answers.{steps_at, circles_given}
 use Rattle.recording.specs.Replies.{reply, reported}
 use Rattle.recording.specs.Walks.{ChainOrNone}
 use Rattle.recording.proofs.Walking.{left_none, left_at}
-use Rattle.recording.proofs.Judging.{held_to, full_to, held_next, full_next, over, too_many, count_few, counted, lists}
+use Rattle.recording.proofs.Judging.{held_to, full_to, held_next, full_next, too_many, count_few, counted, lists}
 use Rattle.search.specs.declared.stack.Stack.{Stack}
 use Rattle.search.specs.declared.tally.Tally.{Tally}
 use Rattle.search.specs.Stacks.{stacked, places, steps, Walks}
@@ -119,10 +119,6 @@ module _ (rows : List Edge) (precedes : ℕ → ℕ → Bool) where
               full_is = refused_once t.listed (no_place (held list) (steps s')) ∙ (λ i. p.full_is i || no_place (p.held_is i) (steps_are i)) ∙ sym (full_next rows precedes n k more);
               held_is = holds ∙ (λ i. with_circle (p.held_is i) (steps_are i)) ∙ sym (held_next rows precedes n k more);
             })
-
-        -- where the budget is spent
-        pub overspent : k ≡ budget → reply rows precedes budget n ≡ Err Budget
-        overspent e = over rows precedes n budget (omega (arith, more))
 
       -- ---- no chain more
 

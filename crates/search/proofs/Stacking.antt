@@ -196,9 +196,6 @@ edge_range e h =
     let (_, w) = and_parts (leb e.held 63) _ hw in
     (leb-true e.thread 63 t, leb-true e.wanted 63 w)
 
-pub thread_small : (lock : ℕ) (e : Edge) → holding lock e ≡ true → e.thread ≤ 63
-thread_small lock e h = (edge_range e (and_parts (eqb lock e.held) (is_edge e) h).1).0
-
 pub wanted_small : (s : Stack) (t : Level) → IsTop s t → (rows : List Edge) (precedes : ℕ → ℕ → Bool)
     → Walks rows precedes s → t.edge.wanted ≤ 63
 wanted_small s t is_top rows precedes w =

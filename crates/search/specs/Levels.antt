@@ -21,7 +21,7 @@ Seen-prop threads guards [] = Unit-prop
 Seen-prop threads guards (l ∷ ls) =
     ×_prop (Coded-set coded_ℕ _ _) (×_prop (Coded-set coded_ℕ _ _) (Seen-prop l.threads l.guards ls))
 
--- What stands where no edge was put.
+-- What is read where no level stands.
 abbrev pub blank_level : Level
 blank_level =
     record { place = 0; edge = record { thread = 0; held = 0; wanted = 0; guards = 0; segment = 0 }; threads = 0; guards = 0 }

@@ -36,6 +36,7 @@ impl Stack {
     {
         let mut circle = CircleRow::blank();
         circle.count = self.levels.len() as u8;
+        // by number: of what is written through iter_mut nothing would be known
         for (i, level) in self.levels.iter().enumerate() {
             circle.steps[i] = step_of(&level.edge);
         }

@@ -1,18 +1,7 @@
-use Rattle.std.proofs.Common.{◌≡◌, ◌<◌, false, eqb, length, Err, sym, refl, ap, ◌∙◌, arith}
-use Rattle.std.proofs.lemmas.Result.{err_from_is_err_and}
-use Rattle.std.proofs.lemmas.Bool.{eqb-true, eqb-false, cond-true, cond-false, false≢true}
+use Rattle.std.proofs.Common.{◌≡◌, ◌<◌, false, eqb, length, sym, refl, ◌∙◌, arith}
+use Rattle.std.proofs.lemmas.Bool.{eqb-false, cond-true, cond-false}
 use Rattle.recording.specs.Replies.{reply, reported}
-use Rattle.search.proofs.Counting.{
-  progress_starts,
-  progresses,
-  overspent,
-  memory_long,
-  ends_small,
-  ends_answer,
-  ends_held,
-  not_over,
-  is_over,
-}
+use Rattle.search.proofs.Counting.{progress_starts, progresses, memory_long, ends_small, ends_answer, ends_held, not_over, is_over}
 use Rattle.search.proofs.reporting.walk_chains.Goals as goal
 
 pub loop-graph-init : goal.loop-graph-init
@@ -42,28 +31,6 @@ loop-graph-preserved g c =
       take.lent ∙ c.loop-graph.invariant.1,
     )
 
-pub returns-in_err-take : goal.returns-in_err-take
-returns-in_err-take g c =
-    let rows = c.build-graph.result.rows.now in
-    let before = (g.O.SegmentOrder.meaning c.build-graph.result.order.now).before in
-    let n = length c.args.circles.now.places.now in
-    let t = c.loop-graph.tally in
-    let p = c.loop-graph.invariant.0 in
-    let next = c.loop-graph-test.ensures in
-    let take = c.take.ensures in
-    let out = err_from_is_err_and c.from_residual.result c.from_residual.ensures.1 in
-    let (spent, is) = is_over t c.args.budget c.in_err-take.field-0.0 (sym take.answers ∙ c.in_err-take.was) in
-    let full = eqb-true t.chains c.args.budget spent in
-    let same = take.holds ∙ cond-true (eqb t.chains c.args.budget) _ _ spent in
-    record {
-      answers = out.1 ∙ ap Err (out.2 ∙ is) ∙ sym (overspent rows before c.args.budget n c.loop-graph.stack t c.loop-graph.circles p
-          c.next_chain.new.self next.more next.next next.walks full)
-          ∙ (λ i. reply (c.build-graph.ensures.rows i) (g.O.SegmentOrder.meaning (c.build-graph.ensures.order i)).before c.args.budget n);
-      holds = λ e. absurd (false≢true (sym e ∙ c.from_residual.ensures.0));
-      size = memory_long rows before c.args.budget n c.loop-graph.stack t c.loop-graph.circles p c.take.new.circles same;
-      lent = take.lent ∙ c.loop-graph.invariant.1;
-    }
-
 pub answer-requires : goal.answer-requires
 answer-requires g c =
     let before = (g.O.SegmentOrder.meaning c.build-graph.result.order.now).before in
@@ -71,21 +38,32 @@ answer-requires g c =
     ends_small c.build-graph.result.rows.now before c.args.budget n c.loop-graph.stack c.loop-graph.tally c.loop-graph.circles
     c.loop-graph.invariant.0 c.loop-graph-test.ensures.more (omega arith)
 
-pub returns : goal.returns
-returns g c =
-    let rows = c.build-graph.result.rows.now in
-    let before = (g.O.SegmentOrder.meaning c.build-graph.result.order.now).before in
-    let n = length c.args.circles.now.places.now in
-    let s = c.loop-graph.stack in
+pub returns-in_err-take-clause-size : goal.returns-in_err-take-clause-size
+returns-in_err-take-clause-size g c =
     let t = c.loop-graph.tally in
-    let list = c.loop-graph.circles in
-    let p = c.loop-graph.invariant.0 in
-    let none = c.loop-graph-test.ensures.more in
-    record {
-      answers = c.answer.ensures ∙ ends_answer rows before c.args.budget n s t list p none
-          ∙ (λ i. reply (c.build-graph.ensures.rows i) (g.O.SegmentOrder.meaning (c.build-graph.ensures.order i)).before c.args.budget n);
-      holds = λ e. ends_held rows before c.args.budget n s t list p none c.answer.result c.answer.ensures e
-          ∙ (λ i. reported (c.build-graph.ensures.rows i) (g.O.SegmentOrder.meaning (c.build-graph.ensures.order i)).before c.args.budget n);
-      size = memory_long rows before c.args.budget n s t list p list refl;
-      lent = c.loop-graph.invariant.1;
-    }
+    let (spent, _) = is_over t c.args.budget c.in_err-take.field-0.0 (sym c.take.ensures.answers ∙ c.in_err-take.was) in
+    memory_long c.build-graph.result.rows.now (g.O.SegmentOrder.meaning c.build-graph.result.order.now).before c.args.budget
+    (length c.args.circles.now.places.now) c.loop-graph.stack t c.loop-graph.circles c.loop-graph.invariant.0 c.take.new.circles
+    (c.take.ensures.holds ∙ cond-true (eqb t.chains c.args.budget) _ _ spent)
+
+pub returns-clause-answers : goal.returns-clause-answers
+returns-clause-answers g c =
+    c.answer.ensures ∙ ends_answer c.build-graph.result.rows.now (g.O.SegmentOrder.meaning c.build-graph.result.order.now).before
+    c.args.budget (length c.args.circles.now.places.now) c.loop-graph.stack c.loop-graph.tally c.loop-graph.circles
+    c.loop-graph.invariant.0 c.loop-graph-test.ensures.more
+    ∙ (λ i. reply (c.build-graph.ensures.rows i) (g.O.SegmentOrder.meaning (c.build-graph.ensures.order i)).before c.args.budget
+    (length c.args.circles.now.places.now))
+
+pub returns-clause-holds : goal.returns-clause-holds
+returns-clause-holds g c e =
+    ends_held c.build-graph.result.rows.now (g.O.SegmentOrder.meaning c.build-graph.result.order.now).before
+    c.args.budget (length c.args.circles.now.places.now) c.loop-graph.stack c.loop-graph.tally c.loop-graph.circles
+    c.loop-graph.invariant.0 c.loop-graph-test.ensures.more c.answer.result c.answer.ensures e
+    ∙ (λ i. reported (c.build-graph.ensures.rows i) (g.O.SegmentOrder.meaning (c.build-graph.ensures.order i)).before c.args.budget
+    (length c.args.circles.now.places.now))
+
+pub returns-clause-size : goal.returns-clause-size
+returns-clause-size g c =
+    memory_long c.build-graph.result.rows.now (g.O.SegmentOrder.meaning c.build-graph.result.order.now).before c.args.budget
+    (length c.args.circles.now.places.now) c.loop-graph.stack c.loop-graph.tally c.loop-graph.circles c.loop-graph.invariant.0
+    c.loop-graph.circles refl

@@ -1,10 +1,6 @@
 use Rattle.std.proofs.Common.{◌∙◌}
-use Rattle.search.specs.Stacks.{top}
-use Rattle.search.proofs.Stacking.{follows, thread_small}
+use Rattle.search.proofs.Stacking.{follows}
 use Rattle.search.proofs.stack.Stack.fits.Goals as goal
-
-pub is_apart-requires : goal.is_apart-requires
-is_apart-requires g c = (c.requires.some, thread_small (top c.args.self.now).edge.wanted c.args.edge.now c.requires.holds)
 
 pub returns : goal.returns
 returns g c =

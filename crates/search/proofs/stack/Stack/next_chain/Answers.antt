@@ -1,6 +1,6 @@
 use Rattle.std.proofs.Common.{◌≤◌, ltb, [], ◌∷◌, ◌++◌, map, length, get_or, append-nil, sym, refl, ap, ◌∙◌, subst, arith}
 use Rattle.rows.specs.Edges.{blank_edge}
-use Rattle.std.proofs.lemmas.List.{get_or_default, length_push}
+use Rattle.std.proofs.lemmas.List.{get_or_default}
 use Rattle.recording.specs.Enumeration.{left}
 use Rattle.recording.proofs.Walking.{left_is}
 use Rattle.search.specs.Stacks.{stacked, places}
@@ -74,10 +74,6 @@ overflow_add-from g c =
     let at = (edge_top c.loop-place.self (stacked c.pop.new.self) c.in-Some-pop.top c.in-Some-pop.ensures.rest rows before
     c.loop-place.invariant.0).0.0 in
     omega (arith, at)
-
-pub loop-place-smaller : goal.loop-place-smaller
-loop-place-smaller g c =
-    omega (arith, ap length c.in-Some-pop.ensures.rest, length_push (stacked c.pop.new.self) c.in-Some-pop.top)
 
 pub loop-place-preserved : goal.loop-place-preserved
 loop-place-preserved g c =
