@@ -1,5 +1,5 @@
 -- Tests on the numbers of segments as one segment is added.
-use Rattle.std.proofs.Common.{◌≡◌, ℕ, ◌+◌, ◌<◌, Bool, true, cond, ◌&&◌, eqb, ltb, ap, inl, inr, arith}
+use Rattle.std.proofs.Common.{◌≡◌, ℕ, ◌+◌, ◌<◌, Bool, true, false, cond, not, ◌&&◌, eqb, ltb, refl, ap, inl, inr, arith}
 use Rattle.std.proofs.lemmas.Bool.{cases_eq, eq-eqb, ne_eqb, lt-ltb, or_cases, eqb-true}
 use Rattle.std.proofs.lemmas.Bool.Decides.{nat_tests}
 use Rattle.order.specs.Meaning.{Meaning, Sound, upto}
@@ -22,3 +22,10 @@ upto_within {limit} {m} s x a h t =
       | inl e ↦ omega (arith, eqb-true a x e)
       | inr b ↦ s.precedes a x b
     ]
+
+-- What is asked of a closed end.
+pub shut_test : (t e f : Bool) → (t && cond e false f) ≡ (not e && (t && f))
+shut_test true true f = refl
+shut_test true false f = refl
+shut_test false true f = refl
+shut_test false false f = refl

@@ -1,5 +1,5 @@
 -- The two lists of numbered segments as one is closed and as one is added.
-use Rattle.std.proofs.Common.{◌≡◌, ℕ, ◌+◌, Bool, true, false, cond, not, ◌&&◌, ◌||◌, eqb, ltb, List, [], ◌∷◌, ◌++◌, length, get_or, set, sym, refl, ◌∙◌, inl, inr, arith}
+use Rattle.std.proofs.Common.{◌≡◌, ℕ, ◌+◌, Bool, true, false, cond, not, ◌&&◌, ◌||◌, eqb, ltb, List, [], ◌∷◌, ◌++◌, length, get_or, set, sym, ◌∙◌, inl, inr, arith}
 use Rattle.std.proofs.lemmas.Bool.{cases_eq, cases_lt, cases_order, eq-eqb, ne_eqb}
 use Rattle.std.proofs.lemmas.Bool.Decides.{nat_tests}
 use Rattle.std.proofs.lemmas.List.{get_or-set_other, get_or_past, length-set, length-append, length-map}
@@ -7,6 +7,7 @@ use Rattle.std.proofs.Math.ListN.{get_or-append}
 use Rattle.std.proofs.Math.Seq.{get_or-append_seam}
 use Rattle.order.specs.declared.segments.Segment.{Segment}
 use Rattle.order.specs.Segments.{ends_of, count_of}
+use Rattle.order.proofs.Growing.{shut_test}
 use Rattle.order.proofs.Words.{get_or_set}
 
 pub ends_long : {T : Type 0} (places : List (Segment T)) → length (ends_of places) ≡ count_of places
@@ -37,13 +38,7 @@ get_or_shut ends x a =
 
 pub closed_end : (ends : List Bool) (n x a : ℕ)
     → (ltb a n && get_or (set ends x false) a false) ≡ (not (eqb a x) && (ltb a n && get_or ends a false))
-closed_end ends n x a = rw (get_or_shut ends x a) (both (ltb a n) (eqb a x) (get_or ends a false))
-  where
-    both : (t e f : Bool) → (t && cond e false f) ≡ (not e && (t && f))
-    both true true f = refl
-    both true false f = refl
-    both false true f = refl
-    both false false f = refl
+closed_end ends n x a = rw (get_or_shut ends x a) (shut_test (ltb a n) (eqb a x) (get_or ends a false))
 
 pub opened_end : (ends : List Bool) (n a : ℕ) → length ends ≡ n
     → (ltb a (n + 1) && get_or (ends ++ true ∷ []) a false) ≡ (eqb a n || (ltb a n && get_or ends a false))

@@ -1,8 +1,9 @@
 -- Runs stay orderly as an end is closed and as a segment is added.
-use Rattle.std.proofs.Common.{◌≡◌, ℕ, ◌+◌, ◌-◌, ◌<◌, ◌≤◌, Bool, true, false, cond, not, ◌&&◌, eqb, ltb, sym, refl, ◌∙◌, inl, inr, arith}
+use Rattle.std.proofs.Common.{◌≡◌, ℕ, ◌+◌, ◌-◌, ◌<◌, ◌≤◌, eqb, ltb, sym, refl, ◌∙◌, inl, inr, arith}
 use Rattle.std.proofs.lemmas.Bool.{cases_eq, eq-eqb, ne_eqb, cond-true, cond-false, false≢true}
 use Rattle.order.specs.Meaning.{closed}
 use Rattle.order.specs.Runs.{Runs, place, runs_meaning, Orderly, End, shut, grown, Room}
+use Rattle.order.proofs.Growing.{shut_test}
 use Rattle.order.proofs.Same.{same_meaning}
 
 -- ---- a closed end
@@ -26,13 +27,7 @@ shut_orderly s x o = record {
 pub shut_means : (s : Runs) (x : ℕ) → runs_meaning (shut s x) ≡ closed (runs_meaning s) x
 shut_means s x =
     same_meaning _ (closed (runs_meaning s) x) refl (λ a b. refl)
-    (λ a. both (ltb a s.count) (eqb a x) (s.ends a))
-  where
-    both : (t e f : Bool) → (t && cond e false f) ≡ (not e && (t && f))
-    both true true f = refl
-    both true false f = refl
-    both false true f = refl
-    both false false f = refl
+    (λ a. shut_test (ltb a s.count) (eqb a x) (s.ends a))
 
 -- ---- one more segment
 
