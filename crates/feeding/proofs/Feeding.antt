@@ -5,7 +5,7 @@ use Rattle.rows.specs.declared.event.Event.{Event}
 use Rattle.rules.specs.States.{State, after, after_all}
 use Rattle.feeding.specs.declared.fault.Stop.{Stop}
 use Rattle.feeding.specs.Files.{fed, taken}
-use Rattle.feeding.specs.Stops.{at_line, line_answer, line_after}
+use Rattle.feeding.specs.Stops.{at_line, line_answer}
 
 module _ (limit : ℕ) (s : State) (l : List ℕ) (ls : List (List ℕ)) where
   -- the first of the lines is taken
@@ -16,9 +16,6 @@ module _ (limit : ℕ) (s : State) (l : List ℕ) (ls : List (List ℕ)) where
     pub taken_more : taken limit s (l ∷ ls) ≡ e ∷ taken limit (after limit s e) ls
     taken_more = rw (taken, h)
 
-    pub after_more : line_after limit s l ≡ after limit s e
-    after_more = rw (line_after, h)
-
   -- the first of the lines is at fault
   module _ (stop : Stop) (h : line_answer limit s l ≡ Err stop) where
     pub fed_stop : (n : ℕ) → fed limit s n (l ∷ ls) ≡ Err (at_line (n + 1) stop)
@@ -26,9 +23,6 @@ module _ (limit : ℕ) (s : State) (l : List ℕ) (ls : List (List ℕ)) where
 
     pub taken_stop : taken limit s (l ∷ ls) ≡ []
     taken_stop = rw (taken, h)
-
-    pub after_stop : line_after limit s l ≡ s
-    after_stop = rw (line_after, h)
 
 -- n lines were taken, and the lines left then bring what all of them bring.
 pub record Going (limit : ℕ) (whole : State) (all : List (List ℕ)) (s : State) (left : List (List ℕ)) (n : ℕ) : Type 0 where
