@@ -28,6 +28,7 @@ fn feed_lines(file: &[u8]) -> Result<u32, Fault>
     requires { length file.now ≤ 60000 }
     ensures { result ≡ counted (events_from 1 (lines file.now)) }
 {
+    // Counted here, and not by `enumerate`: after the last line the count is the answer.
     let mut line: u32 = 0;
     for bytes in Lines::of(file) {
         line += 1;

@@ -1,6 +1,6 @@
 -- The recording behind, as a file is fed.
 -- Assumes nothing.
-use Rattle.std.proofs.Common.{◌≡◌, ℕ, ◌⊎◌, List, [], ◌∷◌, Err, sym, refl, ap, ◌∙◌, subst, inl, inr, arith}
+use Rattle.std.proofs.Common.{◌≡◌, ℕ, ◌⊎◌, List, [], ◌∷◌, Err, Result, sym, refl, ap, ◌∙◌, subst, inl, inr, arith}
 use Rattle.order.specs.declared.cause.OrderCause.{OrderCause}
 use Rattle.order.specs.declared.cause.OrderCause.TheVariants.{End}
 use Rattle.rows.specs.declared.event.Event.{Event}
@@ -12,13 +12,14 @@ use Rattle.rules.specs.Behind.{Behind}
 use Rattle.rules.specs.Calls.{unless_refused}
 use Rattle.rules.specs.Laws.{ListsAreRecorded, EndsAreOpen}
 use Rattle.rules.specs.States.{State, after, after_all, recorded_all}
+use Rattle.rules.proofs.Recorded.{lists_are_recorded, ends_are_open}
 use Rattle.feed.specs.declared.fault.Cause.TheVariants.{Text, Order}
 use Rattle.feed.specs.declared.fault.Fault.{Fault}
 use Rattle.feeding.specs.declared.fault.Stop.{Stop}
-use Rattle.feeding.specs.Files.{events_taken, after_file, AllAccepted, TooLong, FirstFault, Bad}
+use Rattle.feeding.specs.Files.{file_answer, events_taken, after_file, AllAccepted, Feeds, TooLong, FirstFault, Bad}
 use Rattle.feed.specs.Lines.{first_of}
 use Rattle.feeding.specs.Stops.{event_stop}
-use Rattle.feeding.proofs.Fed.{events_accepted}
+use Rattle.feeding.proofs.Fed.{feeds, events_accepted}
 
 all_recorded : (limit : ℕ) (es : List Event) (s : State) (ρ : Recording) → AllAccepted limit s es
     → recorded_all limit s ρ es ≡ followed ρ es
@@ -55,3 +56,16 @@ module _ (recorded : ListsAreRecorded) (opens : EndsAreOpen) (limit : ℕ) (s : 
       go (inr (a, c, r, q, i)) =
           let is = event_order c (ap (λ (z : Stop). z.cause) (sym i) ∙ cause) in
           opens limit _ _ (follows h.before h.accepted) a (q ∙ ap Err is)
+
+-- ---- r is what feeding answers, and t what it leaves
+
+module _ (limit : ℕ) (s : State) (file : List ℕ) where
+  pub fed_feeds : {r : Result ℕ Fault} → r ≡ file_answer limit s file → Feeds limit s file r
+  fed_feeds e = subst (Feeds limit s file) (sym e) (feeds limit s file)
+
+  pub fed_behind : {t : State} → t ≡ after_file limit s file → (ρ : Recording) → Behind ρ s → Behind (followed ρ (events_taken limit s file)) t
+  fed_behind e ρ b = subst (Behind _) (sym e) (file_recorded lists_are_recorded ends_are_open limit s ρ b file)
+
+  pub fed_open : {r : Result ℕ Fault} → r ≡ file_answer limit s file → (ρ : Recording) → Behind ρ s
+      → (f : Fault) → r ≡ Err f → f.cause ≡ Order End → ⊥
+  fed_open e ρ b f h = file_open lists_are_recorded ends_are_open limit s ρ b file f ((feeds limit s file).stops f (sym e ∙ h))

@@ -6,6 +6,7 @@ ghost use Rattle.ledger.specs.Ledgers.{state_with};
 ghost use Rattle.recording.specs.Recording.{Recording, followed};
 ghost use Rattle.rules.specs.Behind.{Behind};
 ghost use Rattle.feeding.specs.Files.{fed, taken, file_answer, events_taken, after_file, Feeds};
+ghost use Rattle.feeding.specs.Lent.{state_of, SameLoans};
 ghost use Rattle.feed.specs.Lines.{lines};
 ghost use Rattle.feeding.specs.Stops.{line_answer, line_after};
 ghost use Rattle.feed.specs.declared.fault.Cause.TheVariants.{Order};
@@ -18,57 +19,42 @@ use rows::{Edge, Event};
 use sorted_list::SortedList;
 use text::read_line;
 
-// Reads a line, and then gives its event to the ledger.
-fn take_line<O: SegmentOrder>(
-    ledger: &mut Ledger,
-    edges: &mut SortedList<'_, Edge>,
-    order: &mut O,
-    bytes: &[u8],
-) -> Result<Event, Stop>
-    ensures answers { result ≡ line_answer O.limit (state_with ledger.old edges.old (O.meaning order.old)) bytes.now }
-    ensures leaves { state_with ledger.new edges.new (O.meaning order.new) ≡ line_after O.limit (state_with ledger.old edges.old (O.meaning order.old)) bytes.now }
-    ensures lent { edges.new.places.ghost_name ≡ edges.old.places.ghost_name }
-{
-    let event = read_line(bytes)?;
-    ledger.enter(edges, order, event)?;
-    Ok(event)
+// A ledger, its edge list and its order, lent together.
+#[derive(Drop)]
+struct Lent<'l, 'e, 'm, 'o, O> {
+    ledger: &'l mut Ledger,
+    edges: &'e mut SortedList<'m, Edge>,
+    order: &'o mut O,
 }
 
-// Takes every line, up to the first fault, and answers how many there are.
-fn feed_lines<O: SegmentOrder>(
-    ledger: &mut Ledger,
-    edges: &mut SortedList<'_, Edge>,
-    order: &mut O,
-    file: &[u8],
-) -> Result<u32, Fault>
-    requires { length file.now ≤ 60000 }
-    ensures answers { result ≡ fed O.limit (state_with ledger.old edges.old (O.meaning order.old)) 0 (lines file.now) }
-    ensures leaves { state_with ledger.new edges.new (O.meaning order.new) ≡ after_all O.limit (state_with ledger.old edges.old (O.meaning order.old)) (taken O.limit (state_with ledger.old edges.old (O.meaning order.old)) (lines file.now)) }
-    ensures lent { edges.new.places.ghost_name ≡ edges.old.places.ghost_name }
-{
-    let mut line: u32 = 0;
-    for bytes in Lines::of(file) {
-        line += 1;
-        take_line(ledger, edges, order, bytes).map_err(|stop| stop.at_line(line))?;
+impl<O: SegmentOrder> Lent<'_, '_, '_, '_, O> {
+    // Reads a line, and then gives its event to the ledger.
+    fn take_line(&mut self, bytes: &[u8]) -> Result<Event, Stop>
+        ensures answers { result ≡ line_answer O.limit (state_of O.meaning self.old) bytes.now }
+        ensures leaves { state_of O.meaning self.new ≡ line_after O.limit (state_of O.meaning self.old) bytes.now }
+        ensures lent { SameLoans self.old self.new }
+    {
+        let event = read_line(bytes)?;
+        self.ledger.enter(self.edges, self.order, event)?;
+        Ok(event)
     }
-    Ok(line)
-}
 
-// Tests the length first.
-fn feed_file<O: SegmentOrder>(
-    ledger: &mut Ledger,
-    edges: &mut SortedList<'_, Edge>,
-    order: &mut O,
-    file: &[u8],
-) -> Result<u32, Fault>
-    ensures answers { result ≡ file_answer O.limit (state_with ledger.old edges.old (O.meaning order.old)) file.now }
-    ensures leaves { state_with ledger.new edges.new (O.meaning order.new) ≡ after_file O.limit (state_with ledger.old edges.old (O.meaning order.old)) file.now }
-    ensures lent { edges.new.places.ghost_name ≡ edges.old.places.ghost_name }
-{
-    if file.len() > LONGEST {
-        return Err(Fault::TOO_LONG);
+    // Takes every line, up to the first fault, and answers how many there are.
+    fn feed_lines(&mut self, file: &[u8]) -> Result<u32, Fault>
+        requires { length file.now ≤ 60000 }
+        ensures answers { result ≡ fed O.limit (state_of O.meaning self.old) 0 (lines file.now) }
+        ensures leaves { state_of O.meaning self.new ≡ after_all O.limit (state_of O.meaning self.old)
+            (taken O.limit (state_of O.meaning self.old) (lines file.now)) }
+        ensures lent { SameLoans self.old self.new }
+    {
+        // Counted here, and not by `enumerate`: after the last line the count is the answer.
+        let mut line: u32 = 0;
+        for bytes in Lines::of(file) {
+            line += 1;
+            self.take_line(bytes).map_err(|stop| stop.at_line(line))?;
+        }
+        Ok(line)
     }
-    feed_lines(ledger, edges, order, file)
 }
 
 // Feeds a whole file, line by line, up to the first fault, and answers how many lines were taken. The lines before a fault stay
@@ -89,5 +75,13 @@ pub fn feed<O: SegmentOrder>(
     ensures ends { (ρ : Recording) → Behind ρ (state_with ledger.old edges.old (O.meaning order.old))
         → (f : Fault) → result ≡ Err f → f.cause ≢ Order End }
 {
-    feed_file(ledger, edges, order, file)
+    if file.len() > LONGEST {
+        return Err(Fault::TOO_LONG);
+    }
+    let mut lent = Lent {
+        ledger,
+        edges,
+        order,
+    };
+    lent.feed_lines(file)
 }

@@ -5,6 +5,7 @@ use order::{Clocks, Matrix, OrderCause, SegmentOrder};
 use rows::{Edge, Life};
 use rules::LedgerCause;
 use sorted_list::{Record, SortedList};
+use std::array;
 use text::TextCause;
 
 fn fault(line: u32, column: u32, cause: Cause) -> Result<u32, Fault> {
@@ -85,16 +86,16 @@ const BAD: [(&[u8], u32, u32, Cause); 16] = [
 
 #[test]
 fn good_files_are_taken_whole(rt: HostRuntime) {
-    for (file, lines) in GOOD.iter() {
-        assert_eq!(rt; feed_fresh::<Matrix>(file), Ok(*lines));
+    for (file, lines) in GOOD {
+        assert_eq!(rt; feed_fresh::<Matrix>(file), Ok(lines));
     }
 }
 
 #[test]
 fn feeding_stops_at_the_first_bad_line(rt: HostRuntime) {
-    for (file, line, column, cause) in BAD.iter() {
-        assert_eq!(rt; feed_fresh::<Matrix>(file), fault(*line, *column, *cause));
-        assert_eq!(rt; feed_fresh::<Clocks>(file), fault(*line, *column, *cause));
+    for (file, line, column, cause) in BAD {
+        assert_eq!(rt; feed_fresh::<Matrix>(file), fault(line, column, cause));
+        assert_eq!(rt; feed_fresh::<Clocks>(file), fault(line, column, cause));
     }
 }
 
@@ -102,7 +103,7 @@ fn feeding_stops_at_the_first_bad_line(rt: HostRuntime) {
 fn the_length_is_tested_before_anything_else(rt: HostRuntime) {
     let file = [b'x'; 60_001];
     assert_eq!(rt;
-        feed_fresh::<Matrix>(&file[0..60_000]),
+        feed_fresh::<Matrix>(&file[..60_000]),
         fault(1, 1, Cause::Text(TextCause::Letter))
     );
     assert_eq!(rt;
@@ -113,10 +114,8 @@ fn the_length_is_tested_before_anything_else(rt: HostRuntime) {
 
 // T0 starts T1, and then joins it again and again, in 200 lines.
 fn joins() -> [u8; 1800] {
-    let mut file = [b's'; 1800];
-    for i in 1..1800 {
-        file[i] = b"j(T0,T1)\n"[i % 9];
-    }
+    let mut file = array::from_fn(|i| b"j(T0,T1)\n"[i % 9]);
+    file[0] = b's';
     file
 }
 

@@ -14,7 +14,7 @@ use Rattle.recording.specs.declared.cause.SearchCause.TheVariants.{Budget, Place
 use Rattle.rules.specs.Behind.{Behind}
 use Rattle.rules.specs.States.{State, fresh_state}
 use Rattle.rules.proofs.Recorded.{nothing_behind_fresh, lists_are_recorded, ends_are_open}
-use Rattle.feeding.specs.Files.{file_answer, after_file, Says}
+use Rattle.feeding.specs.Files.{file_answer, Says}
 use Rattle.feed.specs.Causes.{search_fault}
 use Rattle.feed.specs.declared.fault.Fault.{Fault}
 use Rattle.feeding.proofs.Fed.{feeds}
@@ -62,44 +62,6 @@ of_report_ok (Err c) a e = absurd (ok_or_err e refl)
 of_report_err : (r : Result Answer SearchCause) (f : Fault) → of_report r ≡ Err f → (c : SearchCause) × (f ≡ search_fault c)
 of_report_err (Ok b) f e = absurd (ok_or_err refl e)
 of_report_err (Err c) f e = (c, err_same (sym e))
-
--- ---- the steps of the job: s is the state that is fed, fresh, and t what the file makes of it
-
-module _ (limit places budget room : ℕ) (file : List ℕ) {s t : State} {fed : Result ℕ Fault} (old : Held CircleRow)
-    (fresh : s ≡ fresh_state places) (answers : fed ≡ file_answer limit s file) (leaves : t ≡ after_file limit s file) where
-  fed_is : file_answer limit (fresh_state places) file ≡ fed
-  fed_is = ap (λ k. file_answer limit k file) (sym fresh) ∙ sym answers
-
-  pub left_is : t ≡ fed_state limit places file
-  left_is = leaves ∙ ap (λ k. after_file limit k file) fresh
-
-  -- the file has a fault
-  module _ (f : Fault) (e : fed ≡ Err f) where
-    pub fault_answer : Err f ≡ checked limit places file budget room
-    fault_answer =
-        let k = fed_state limit places file in
-        sym (ap (λ r. if_fed r (of_report (reply k.edges.records k.order.before budget room))) (fed_is ∙ e))
-
-    pub fault_circles : old ≡ circles_after limit places file budget room old
-    fault_circles =
-        let k = fed_state limit places file in
-        sym (ap (λ r. circles_left r (reported k.edges.records k.order.before budget room) old) (fed_is ∙ e))
-
-  -- it has none, and r and found are the answer and the list of the report
-  module _ (n : ℕ) (e : fed ≡ Ok n) {r : Result Answer Fault} {found : Held CircleRow}
-      (told : r ≡ of_report (reply t.edges.records t.order.before budget room))
-      (listed : found ≡ reported t.edges.records t.order.before budget room) where
-    pub whole_answer : r ≡ checked limit places file budget room
-    whole_answer =
-        let k = fed_state limit places file in
-        told ∙ ap (λ (z : State). of_report (reply z.edges.records z.order.before budget room)) left_is
-        ∙ sym (ap (λ q. if_fed q (of_report (reply k.edges.records k.order.before budget room))) (fed_is ∙ e))
-
-    pub whole_circles : found ≡ circles_after limit places file budget room old
-    whole_circles =
-        let k = fed_state limit places file in
-        listed ∙ ap (λ (z : State). reported z.edges.records z.order.before budget room) left_is
-        ∙ sym (ap (λ q. circles_left q (reported k.edges.records k.order.before budget room) old) (fed_is ∙ e))
 
 -- ---- the job in words
 
@@ -152,5 +114,6 @@ module _ (limit places : ℕ) (file : List ℕ) (budget room : ℕ) (old : Held 
       → h ≡ circles_after limit places file budget room old → Tells limit places file r h.records
   tells p q = rw (p, q) told_words
 
+module _ (limit places : ℕ) (file : List ℕ) (budget room : ℕ) where
   pub alike : {r : Result Answer Fault} → r ≡ checked limit places file budget room → SameThreadsChecked limit places budget room file r
   alike p other es others x y same = p ∙ same_checked limit places budget room file other es others x y same

@@ -1,8 +1,7 @@
 // From the bytes of a file to the circles, or the fault.
 ghost use Rattle.std.specs.Prelude.{◌≡◌, length};
 ghost use Rattle.sorted_list.specs.Lists.{held};
-ghost use Rattle.recording.specs.Replies.{reply, reported};
-ghost use Rattle.file_check.specs.Checks.{of_report, fed_state, checked, circles_after, Tells, SameThreadsChecked};
+ghost use Rattle.file_check.specs.Checks.{fed_state, checked, circles_after, Tells, SameThreadsChecked};
 
 use feeding::{Fault, feed};
 use ledger::Ledger;
@@ -11,45 +10,6 @@ use recording::Answer;
 use rows::{CircleRow, Edge};
 use search::report;
 use sorted_list::SortedList;
-
-// A report whose refusal is a fault.
-fn report_fed<O: SegmentOrder>(
-    edges: &SortedList<'_, Edge>,
-    order: &O,
-    budget: u32,
-    circles: &mut SortedList<'_, CircleRow>,
-) -> Result<Answer, Fault>
-    ensures answers { result ≡ of_report (reply (held edges.now).records (O.meaning order.now).before budget
-        (length circles.old.places.now)) }
-    ensures holds { held circles.new ≡ reported (held edges.now).records
-        (O.meaning order.now).before budget (length circles.old.places.now) }
-    ensures lent { circles.new.places.ghost_name ≡ circles.old.places.ghost_name }
-{
-    let answer = report(edges, order, budget, circles)?;
-    Ok(answer)
-}
-
-// The equations of `check_file`.
-fn run<O: SegmentOrder + Drop>(
-    file: &[u8],
-    edges: &mut SortedList<'_, Edge>,
-    circles: &mut SortedList<'_, CircleRow>,
-    budget: u32,
-) -> Result<Answer, Fault>
-    ensures answers { result ≡ checked O.limit (length edges.old.places.now) file.now budget
-        (length circles.old.places.now) }
-    ensures draws { held edges.new ≡ (fed_state O.limit (length edges.old.places.now) file.now).edges }
-    ensures holds { held circles.new ≡ circles_after O.limit (length edges.old.places.now) file.now budget
-        (length circles.old.places.now) (held circles.old) }
-    ensures lent { (edges.new.places.ghost_name ≡ edges.old.places.ghost_name)
-        × (circles.new.places.ghost_name ≡ circles.old.places.ghost_name) }
-{
-    edges.clear();
-    let mut order = O::fresh();
-    let mut ledger = Ledger::fresh();
-    feed(&mut ledger, edges, &mut order, file)?;
-    report_fed(edges, &order, budget, circles)
-}
 
 // Feeds a file to a fresh ledger, with the edge list opened anew and a fresh order, and reports the circles. The circle list is left as it
 // was where the file has a fault.
@@ -70,5 +30,9 @@ pub fn check_file<O: SegmentOrder + Drop>(
     ensures alike { SameThreadsChecked O.limit (length edges.old.places.now) budget
         (length circles.old.places.now) file.now result }
 {
-    run::<O>(file, edges, circles, budget)
+    edges.clear();
+    let mut order = O::fresh();
+    let mut ledger = Ledger::fresh();
+    feed(&mut ledger, edges, &mut order, file)?;
+    report(edges, &order, budget, circles).map_err(Fault::from)
 }

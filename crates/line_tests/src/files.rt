@@ -30,21 +30,21 @@ const BAD: [(&[u8], u32, u32, TextCause); 8] = [
 
 #[test]
 fn good_files_are_read_whole(rt: HostRuntime) {
-    for (file, lines) in GOOD.iter() {
-        assert_eq!(rt; feed(file), Ok(*lines));
+    for (file, lines) in GOOD {
+        assert_eq!(rt; feed(file), Ok(lines));
     }
 }
 
 #[test]
 fn feeding_stops_at_the_first_bad_line(rt: HostRuntime) {
-    for (file, line, column, cause) in BAD.iter() {
-        assert_eq!(rt; feed(file), fault(*line, *column, *cause));
+    for (file, line, column, cause) in BAD {
+        assert_eq!(rt; feed(file), fault(line, column, cause));
     }
 }
 
 #[test]
 fn the_length_is_tested_before_anything_else(rt: HostRuntime) {
     let file = [b'x'; 60_001];
-    assert_eq!(rt; feed(&file[0..60_000]), fault(1, 1, TextCause::Letter));
+    assert_eq!(rt; feed(&file[..60_000]), fault(1, 1, TextCause::Letter));
     assert_eq!(rt; feed(&file), fault(0, 0, TextCause::Size));
 }

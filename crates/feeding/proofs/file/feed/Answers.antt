@@ -1,22 +1,18 @@
-use Rattle.std.proofs.Common.{sym, ◌∙◌, subst}
-use Rattle.rules.specs.Behind.{Behind}
-use Rattle.rules.proofs.Recorded.{lists_are_recorded, ends_are_open}
-use Rattle.feeding.specs.Files.{Feeds}
-use Rattle.feeding.proofs.Fed.{feeds}
-use Rattle.feeding.proofs.Recorded.{file_recorded, file_open}
+use Rattle.std.proofs.Common.{rules}
+use Rattle.feeding.proofs.Recorded.{fed_feeds, fed_behind, fed_open}
 use Rattle.feeding.proofs.file.feed.Goals as goal
 
-pub returns : goal.returns
-returns g c =
-    let limit = g.O.SegmentOrder.limit in
-    let file = c.args.file.now in
-    let is = c.feed_file.ensures.answers in
-    let left = c.feed_file.ensures.leaves in
-    record {
-      answers = is;
-      leaves = left;
-      lent = c.feed_file.ensures.lent;
-      feeds = subst (Feeds limit _ file) (sym is) (feeds limit _ file);
-      behind = λ ρ b. subst (Behind _) (sym left) (file_recorded lists_are_recorded ends_are_open limit _ ρ b file);
-      ends = λ ρ b f h. file_open lists_are_recorded ends_are_open limit _ ρ b file f ((feeds limit _ file).stops f (sym is ∙ h));
-    }
+pub returns-clause-answers : goal.returns-clause-answers
+returns-clause-answers g c = search rules
+
+pub returns-clause-leaves : goal.returns-clause-leaves
+returns-clause-leaves g c = search rules
+
+pub returns-clause-feeds : goal.returns-clause-feeds
+returns-clause-feeds g c = fed_feeds g.O.SegmentOrder.limit _ c.args.file.now (returns-clause-answers g c)
+
+pub returns-clause-behind : goal.returns-clause-behind
+returns-clause-behind g c = fed_behind g.O.SegmentOrder.limit _ c.args.file.now (returns-clause-leaves g c)
+
+pub returns-clause-ends : goal.returns-clause-ends
+returns-clause-ends g c = fed_open g.O.SegmentOrder.limit _ c.args.file.now (returns-clause-answers g c)
