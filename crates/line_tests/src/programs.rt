@@ -9,8 +9,14 @@ use text::TextCause;
 #[test]
 fn input_is_read_up_to_one_byte_more_than_a_recording(rt: HostRuntime) -> Result<(), Fail> {
     let bytes = [b'x'; 60_002];
-    assert_eq!(rt; read_input(rt.alloc(), &bytes[..9])?.as_slice(), &bytes[..9]);
-    assert_eq!(rt; read_input(rt.alloc(), bytes.as_slice())?.as_slice(), &bytes[..60_001]);
+    assert_eq!(rt;
+        read_input(rt.alloc(), &bytes[..9])?.as_slice(),
+        &bytes[..9]
+    );
+    assert_eq!(rt;
+        read_input(rt.alloc(), bytes.as_slice())?.as_slice(),
+        &bytes[..60_001]
+    );
     Ok(())
 }
 
@@ -38,7 +44,8 @@ fn lines_come_one_after_another(rt: HostRuntime) -> Result<(), Fail> {
     print_circle(&mut out, &circle, 1)?;
     print_answer(&mut out, &answer)?;
     print_fault(&mut out, &fault)?;
-    let text = b"T0:L1>L2 T1:L2>L1 odds 5000\ncircles 1 chains 3\nline 3 column 8 layer text cause 15\n";
+    let text =
+        b"T0:L1>L2 T1:L2>L1 odds 5000\ncircles 1 chains 3\nline 3 column 8 layer text cause 15\n";
     assert_eq!(rt; out.as_slice(), text.as_slice());
     Ok(())
 }
