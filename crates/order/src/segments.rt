@@ -60,18 +60,19 @@ impl<T: Copy + Default, const N: usize> Segments<T, N> {
         x != y && self.is_end(x) && self.is_end(y)
     }
 
-    // The next number, if the ends are open and as many numbers as wanted are left below N.
-    pub(crate) fn admit(&self, good: bool, wanted: usize) -> Result<u16, OrderCause>
-        requires { N ≤ 65535 }
-        ensures { result ≡ admitted N (count_of self.now.places.items) wanted good }
+    // The next number, if the ends are open and as many numbers as wanted are left below the ceiling.
+    pub(crate) fn admit(&self, good: bool, wanted: u16, ceiling: u16) -> Result<u16, OrderCause>
+        requires { (count_of self.now.places.items ≤ ceiling) × (N ≤ 65535) }
+        ensures { result ≡ admitted ceiling (count_of self.now.places.items) wanted good }
     {
         if !good {
             return Err(OrderCause::End);
         }
-        if self.places.remaining_capacity() < wanted {
+        let count = self.places.len() as u16;
+        if wanted > ceiling - count {
             return Err(OrderCause::Ceiling);
         }
-        Ok(self.places.len() as u16)
+        Ok(count)
     }
 
     // An open end no longer.
