@@ -2,6 +2,7 @@
 use feed::{Cause, Fault};
 use output::{OutputCause, answer_line, circle_line, fault_line, odds};
 use rows::{Circle, CircleRow, Step};
+use std::array;
 use std::process::Abort;
 use text::TextCause;
 
@@ -69,14 +70,8 @@ fn short_memory_is_left_as_it_was(rt: HostRuntime) {
     check_untouched(&rt, &line);
 }
 
-const NO_STEP: Step = Step {
-    thread: 0,
-    held: 0,
-    wanted: 0,
-};
-
 fn two_steps() -> Circle {
-    let mut steps = [NO_STEP; 64];
+    let mut steps = [Step::ZERO; 64];
     steps[0] = Step {
         thread: 0,
         held: 1,
@@ -92,21 +87,21 @@ fn two_steps() -> Circle {
 
 // Each thread wants the lock of the next, and all numbers have three digits.
 fn longest() -> Circle {
-    let mut steps = [NO_STEP; 64];
-    for i in 0..64u8 {
-        steps[usize::from(i)] = Step {
+    let steps = array::from_fn(|i| {
+        let i = i as u8;
+        Step {
             thread: 192 + i,
             held: 192 + i,
             wanted: 192 + (i + 1) % 64,
-        };
-    }
+        }
+    });
     Circle::from_row(CircleRow { count: 64, steps })
 }
 
 fn blank() -> Circle {
     Circle::from_row(CircleRow {
         count: 0,
-        steps: [NO_STEP; 64],
+        steps: [Step::ZERO; 64],
     })
 }
 

@@ -1,4 +1,4 @@
-// Lines, files and printed lines by example.
+// Lines, files, printed lines, and what the programs read and print, by example.
 #![tactic(auto)]
 
 #[cfg(test)]
@@ -7,3 +7,5 @@ mod files;
 mod lines;
 #[cfg(test)]
 mod prints;
+#[cfg(test)]
+mod programs;

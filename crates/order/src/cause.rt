@@ -11,6 +11,7 @@ pub enum OrderCause {
 }
 
 impl OrderCause {
+    // Each layer's enum has this one line; a trait with an impl for each would be longer.
     pub fn number(&self) -> u32
         ensures { result ≡ cause_number self.now }
     {

@@ -12,6 +12,7 @@ pub enum OutputCause {
 }
 
 impl OutputCause {
+    // Each layer's enum has this one line; a trait with an impl for each would be longer.
     pub fn number(&self) -> u32
         ensures { result ≡ cause_number self.now }
     {

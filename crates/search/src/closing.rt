@@ -8,7 +8,7 @@ use crate::stack::Stack;
 use rows::{CircleRow, Edge, Step};
 use sorted_list::Record;
 
-// The step that an edge gives to a circle.
+// The step that an edge gives to a circle. No `From`: that would stand in `rows`, whose edges know no chains.
 fn step_of(edge: &Edge) -> Step
     ensures { result ≡ step edge.now }
 {

@@ -84,6 +84,7 @@ impl Index {
         ensures { result ≡ first_from (holding lock) rows.now from }
     {
         let mut at = from;
+        // By blocks, not by places: an iterator would walk the blocks that hold nothing.
         while at < rows.len() {
             let end = self.end_of_block(at, rows.len());
             if let Some(place) = scan(rows, lock, at, end) {

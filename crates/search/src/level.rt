@@ -17,7 +17,7 @@ pub(crate) struct Level {
     pub(crate) guards: u64,
 }
 
-// What stands where no edge was put.
+// What stands where no edge was put. Not derived: the blank edge is not all zeros.
 impl Default for Level {
     fn default() -> Level {
         Level {
@@ -44,7 +44,7 @@ impl Level {
         }
     }
 
-    // Whether the thread is one of the chain's.
+    // Whether the thread is one of the chain's. One shift, as in the sets of other crates: a call would be no shorter.
     pub(crate) fn has_thread(&self, thread: u8) -> bool
         requires { thread ≤ 63 }
         ensures { result ≡ in_set thread self.now.threads }

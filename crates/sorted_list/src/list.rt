@@ -7,7 +7,8 @@ use crate::record::Record;
 mod calls;
 mod steps;
 
-// The first `count` places hold the records, which ascend, and the later ones are free.
+// The first `count` places hold the records, which ascend, and the later ones are free. The memory is the caller's, so its length
+// is not the list's.
 #[derive(Drop)]
 pub struct SortedList<'a, R: Record> {
     places: &'a mut [R],

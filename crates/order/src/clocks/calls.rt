@@ -46,7 +46,9 @@ impl SegmentOrder for Clocks {
 
     // The first of the two segments goes on in x's run, and the second begins one.
     fn fork(&mut self, x: u16) -> Result<u16, OrderCause> {
-        let n = self.segments.admit(self.segments.is_end(x), 2, Self::CEILING)?;
+        let n = self
+            .segments
+            .admit(self.segments.is_end(x), 2, Self::CEILING)?;
         let clock = self.up_to(x);
         self.segments.close(x);
         self.segments.add(clock);
@@ -55,7 +57,9 @@ impl SegmentOrder for Clocks {
     }
 
     fn meet(&mut self, x: u16, y: u16) -> Result<u16, OrderCause> {
-        let n = self.segments.admit(self.segments.can_meet(x, y), 1, Self::CEILING)?;
+        let n = self
+            .segments
+            .admit(self.segments.can_meet(x, y), 1, Self::CEILING)?;
         let clock = self.up_to(x).merge(&self.up_to(y));
         self.segments.close(x);
         self.segments.add(clock);

@@ -43,7 +43,9 @@ impl SegmentOrder for Matrix {
     }
 
     fn fork(&mut self, x: u16) -> Result<u16, OrderCause> {
-        let n = self.segments.admit(self.segments.is_end(x), 2, Self::CEILING)?;
+        let n = self
+            .segments
+            .admit(self.segments.is_end(x), 2, Self::CEILING)?;
         let past = self.up_to(x);
         self.segments.close(x);
         self.segments.add(past);
@@ -52,7 +54,9 @@ impl SegmentOrder for Matrix {
     }
 
     fn meet(&mut self, x: u16, y: u16) -> Result<u16, OrderCause> {
-        let n = self.segments.admit(self.segments.can_meet(x, y), 1, Self::CEILING)?;
+        let n = self
+            .segments
+            .admit(self.segments.can_meet(x, y), 1, Self::CEILING)?;
         let past = self.up_to(x).merge(&self.up_to(y));
         self.segments.close(x);
         self.segments.add(past);

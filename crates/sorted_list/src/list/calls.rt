@@ -8,6 +8,7 @@ use super::steps::blank_all;
 use crate::cause::ListCause;
 use crate::record::Record;
 
+// `lent` says that the memory is the one from before: it ties two states, so no ghost field can say it.
 impl<'a, R: Record> SortedList<'a, R> {
     // An empty list over the places, each of which is blanked.
     pub fn open(places: &'a mut [R]) -> SortedList<'a, R>
