@@ -1,4 +1,3 @@
 pub mod Orders
-pub mod Conjunctions
 pub mod Linking
 pub mod Deciding
