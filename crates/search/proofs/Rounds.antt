@@ -1,18 +1,16 @@
 -- The circle of a stack.
 -- Assumes nothing.
-use Rattle.std.proofs.Common.{◌≡◌, ℕ, zero, suc, ◌+◌, ◌-◌, ◌<◌, ◌≤◌, true, ◌&&◌, eqb, ltb, List, [], ◌∷◌, ◌++◌, map, length, get_or, take, set, replicate, sym, ap, ◌∙◌, append_assoc, arith}
-use Rattle.std.proofs.lemmas.List.{take-replicate, length-map, length-take-le, map_more, set_at, get_or-map, take_all}
-use Rattle.std.proofs.lemmas.Bool.{lt-ltb}
+use Rattle.std.proofs.Common.{◌≡◌, ℕ, zero, suc, ◌+◌, ◌-◌, ◌<◌, ◌≤◌, true, ◌&&◌, eqb, ltb, List, [], ◌∷◌, ◌++◌, map, length, get_or, take, replicate, sym, refl, ap, ◌∙◌, subst, inl, inr, length-append, arith}
+use denote.Param.Members.{Mut, Called}
+use Rattle.std.specs.Array.{IsFromFnResult, IsFromFnResultFrom}
+use Rattle.std.proofs.lemmas.List.{length-map, length-replicate, length-take-le, get_or-map, get_or-take, get_or-append_right, get_or_append_left, get_or-replicate, get_or_past, ext_get_or}
+use Rattle.std.proofs.lemmas.Bool.{lt-ltb, cases_eq, cases_lt}
 use Rattle.rows.specs.Circles.{zero_step}
-use Rattle.rows.specs.Edges.{blank_edge}
-use Rattle.rows.specs.declared.row.CircleRow.{CircleRow}
 use Rattle.rows.specs.declared.step.Step.{Step}
-use Rattle.recording.specs.Answers.{closed, circle_row}
+use Rattle.recording.specs.Answers.{closed}
 use Rattle.recording.specs.Chains.{step}
 use Rattle.search.specs.declared.level.Level.{Level}
-use Rattle.search.specs.declared.stack.Stack.{Stack}
 use Rattle.search.specs.Levels.{blank_level}
-use Rattle.search.specs.Stacks.{stacked, edges}
 use Rattle.search.proofs.Seeing.{edges_in, wanted_last}
 
 -- The last wanted lock and the first held lock of two or more edges.
@@ -26,44 +24,53 @@ closed_by (l ∷ ls) many =
     ap (λ n. eqb (get_or (l ∷ ls) n blank_level).edge.wanted l.edge.held) less
     ∙ (λ i. sym some i && eqb (wanted_last l ls i) l.edge.held)
 
--- A list with zeros behind it.
-padded : (n k : ℕ) (c : List Step) → length c ≤ n → n ≤ length c + k
-    → take n (c ++ replicate k zero_step) ≡ c ++ replicate (n - length c) zero_step
-padded n k [] l h = let e : n ≡ n - 0 = omega arith in take-replicate n k zero_step (omega arith) ∙ ap (λ m. replicate m zero_step) e
-padded zero k (x ∷ c) l h = absurd (omega arith)
-padded (suc n) k (x ∷ c) l h =
-    let e : suc n - suc (length c) ≡ n - length c = omega arith in
-    ap (λ ys. x ∷ ys) (padded n k c (omega arith) (omega arith)) ∙ ap (λ m. x ∷ c ++ replicate m zero_step) (sym e)
+-- The function f answers v, and stays as it is.
+abbrev Answers : {F : Type 0} → Mut F (ℕ × Unit {0}) Step → F → (ℕ → Step) → Type 0
+Answers {F} g f v = (k : ℕ) (r : Step) (q : F) → Called g f (k, tt) r q → (r ≡ v k) × (q ≡ f)
 
-module _ (s : Stack) (within : length (stacked s) ≤ 64) where
-  abbrev steps_to : ℕ → List Step
-  steps_to i = map step (take i (edges s))
+made_from : {F : Type 0} (g : Mut F (ℕ × Unit {0}) Step) (f : F) (v : ℕ → Step) (ys : List Step) (i n : ℕ) → Answers g f v
+    → IsFromFnResultFrom g f ys i n → (j : ℕ) → i ≤ j → j < i + n → get_or ys j zero_step ≡ v j
+made_from g f v ys i zero says m j l h = absurd (omega arith)
+made_from g f v ys i (suc n) says (q, y, at, call, rest) j l h =
+    let s = says i y q call in
+    elim (cases_eq j i) [
+      | inl e ↦ rw e (at.1 zero_step ∙ s.0)
+      | inr ne ↦
+          let on = subst (λ t. IsFromFnResultFrom g t ys (i + 1) n) s.1 rest in
+          made_from g f v ys (i + 1) n says on j (omega arith) (omega arith)
+    ]
 
-  edges_size : length (edges s) ≡ length (stacked s)
-  edges_size = length-map (stacked s) _
+module _ (c : List Step) where
+  abbrev step_or_zero : ℕ → Step
+  step_or_zero i = get_or c i zero_step
 
-  pub step_more : (steps : List Step) (i : ℕ) (z : Step) → i < length (stacked s)
-      → steps ≡ steps_to i ++ replicate (64 - i) zero_step → z ≡ step (get_or (stacked s) i blank_level).edge
-      → set steps i z ≡ steps_to (i + 1) ++ replicate (64 - (i + 1)) zero_step
-  step_more steps i z h so is =
-      let c = steps_to i in
-      let rest = replicate (64 - (i + 1)) zero_step in
-      let long : length c ≡ i = length-map (take i (edges s)) step ∙ length-take-le i (edges s) (omega (arith, edges_size)) in
-      let e : 64 - i ≡ suc (64 - (i + 1)) = omega arith in
-      let more = map_more step (edges s) i blank_edge (omega (arith, edges_size)) in
-      let here = sym (get_or-map (λ l. l.edge) (stacked s) i blank_level blank_edge h) in
-      ap (λ l. set l i z) (so ∙ ap (λ n. c ++ replicate n zero_step) e) ∙ set_at c zero_step rest z i long
-      ∙ ap (λ y. c ++ y ∷ rest) (is ∙ ap step here)
-      ∙ sym (append_assoc c (step (get_or (edges s) i blank_edge) ∷ []) rest) ∙ ap (λ l. l ++ rest) (sym more)
+  abbrev zeros : List Step
+  zeros = replicate 64 zero_step
 
-  pub circle_is : (r : CircleRow) (i : ℕ) → length (stacked s) ≡ i → r.count ≡ length (stacked s)
-      → r.steps ≡ steps_to i ++ replicate (64 - i) zero_step → r ≡ circle_row (map step (edges s))
-  circle_is r i end many so =
-      let c = map step (edges s) in
-      let count : length c ≡ length (stacked s) = length-map (edges s) step ∙ edges_size in
-      let whole : steps_to i ≡ c = ap (map step) (take_all i (edges s) (omega (arith, edges_size))) in
-      let n : 64 - i ≡ 64 - length c = omega arith in
-      let all : r.steps ≡ take 64 (c ++ replicate 64 zero_step) =
-      so ∙ (λ j. whole j ++ replicate (n j) zero_step) ∙ sym (padded 64 64 c (omega arith) (omega arith)) in
-      let counted = many ∙ sym count in
-      λ j. record { count = counted j; steps = all j }
+  padded : (i : ℕ) → i < 64 → get_or (take 64 (c ++ zeros)) i zero_step ≡ step_or_zero i
+  padded i h =
+      get_or-take 64 (c ++ zeros) i zero_step h
+      ∙ elim (cases_lt i (length c)) [
+        | inl l ↦ get_or_append_left c zeros zero_step i l
+        | inr m ↦
+            get_or-append_right c zeros (length c) i zero_step refl m
+            ∙ get_or-replicate 64 (i - length c) zero_step zero_step (omega arith) ∙ sym (get_or_past c i zero_step m)
+      ]
+
+  -- A list of 64 steps that a function made place by place: those of c, and zeros behind them.
+  pub made_steps : {F : Type 0} {g : Mut F (ℕ × Unit {0}) Step} {f : F} {ys : List Step} → Answers g f step_or_zero
+      → IsFromFnResult g f ys 64 → ys ≡ take 64 (c ++ zeros)
+  made_steps {F} {g} {f} {ys} says m =
+      let long = length-append c zeros in
+      let behind = length-replicate 64 zero_step in
+      let size = length-take-le 64 (c ++ zeros) (omega arith) in
+      let made = made_from g f step_or_zero ys 0 64 says m.each in
+      ext_get_or zero_step ys (take 64 (c ++ zeros)) (m.long ∙ sym size)
+      (λ i h. made i (omega arith) (omega (arith, m.long)) ∙ sym (padded i (omega (arith, m.long))))
+
+-- The step of the edge at a place.
+pub step_at : (ls : List Level) (k : ℕ) (l : Level) → k < length ls → l ≡ get_or ls k l
+    → get_or (map step (edges_in ls)) k zero_step ≡ step l.edge
+step_at ls k l h is =
+    get_or-map step (edges_in ls) k l.edge zero_step (omega (arith, length-map ls (λ x. x.edge)))
+    ∙ ap step (get_or-map (λ x. x.edge) ls k l l.edge h) ∙ ap (λ x. step x.edge) (sym is)

@@ -6,7 +6,7 @@ ghost use Rattle.search.specs.Stacks.{steps};
 
 use crate::stack::Stack;
 use rows::{CircleRow, Edge, Step};
-use sorted_list::Record;
+use std::array;
 
 // The step that an edge gives to a circle. No `From`: that would stand in `rows`, whose edges know no chains.
 fn step_of(edge: &Edge) -> Step
@@ -34,12 +34,13 @@ impl Stack {
     pub(crate) fn circle(&self) -> CircleRow
         ensures { result ≡ circle_row (steps self.now) }
     {
-        let mut circle = CircleRow::blank();
-        circle.count = self.levels.len() as u8;
-        // by number: of what is written through iter_mut nothing would be known
-        for (i, level) in self.levels.iter().enumerate() {
-            circle.steps[i] = step_of(&level.edge);
+        CircleRow {
+            count: self.levels.len() as u8,
+            steps: array::from_fn(|i| {
+                self.levels
+                    .get(i)
+                    .map_or(Step::ZERO, |level| step_of(&level.edge))
+            }),
         }
-        circle
     }
 }
