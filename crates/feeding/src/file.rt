@@ -39,8 +39,8 @@ impl<O: SegmentOrder> Lent<'_, '_, '_, '_, O> {
         Ok(event)
     }
 
-    // Takes every line, up to the first fault, and answers how many there are. The loop of `feed::feed` over another step: what a
-    // closure would have to promise of its step is longer than the loop.
+    // Takes every line, up to the first fault, and answers how many there are. The loop of `feed::feed` over another step: a shared one
+    // would take the step as a closure and say in clauses what each call leaves, which is longer than the loop.
     fn feed_lines(&mut self, file: &[u8]) -> Result<u32, Fault>
         requires { length file.now ≤ 60000 }
         ensures answers { result ≡ fed O.limit (state_of O.meaning self.old) 0 (lines file.now) }

@@ -2,6 +2,7 @@
 use feed::{Cause, Fault};
 use output::{OutputCause, answer_line, circle_line, fault_line, odds};
 use rows::{Circle, CircleRow, Step};
+use sorted_list::Record;
 use std::array;
 use std::process::Abort;
 use text::TextCause;
@@ -99,10 +100,7 @@ fn longest() -> Circle {
 }
 
 fn blank() -> Circle {
-    Circle::from_row(CircleRow {
-        count: 0,
-        steps: [Step::ZERO; 64],
-    })
+    Circle::from_row(CircleRow::blank())
 }
 
 #[test]

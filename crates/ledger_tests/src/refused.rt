@@ -12,7 +12,7 @@ const JOIN: Event = Event::Join(0, 1);
 
 const TAKE: Event = Event::Lock(0, 5);
 
-// Events that are accepted, one that is turned down after them, and the number of its cause.
+// Events that are accepted, one that is turned down after them, and the number of its cause, as it is printed.
 const REFUSED: [(&[Event], Event, u32); 19] = [
     (&[], Event::Lock(64, 0), 1),
     (&[], Event::Lock(0, 64), 1),

@@ -1,4 +1,4 @@
-// Whole files: where lines end, and where feeding stops.
+// Whole files: where lines end, and where feeding stops. `feeding_tests` has the like of the other call, with a ledger.
 use feed::{Cause, Fault, feed};
 use text::TextCause;
 

@@ -1,4 +1,4 @@
-// Odds, and the line for a fault. Two functions became one, so these tests stand in `feeding_tests` too: each test stays.
+// Odds, and the line for a fault. `feeding_tests` has these too, beside its faults of other layers: no test goes.
 use feed::{Cause, Fault};
 use output::{OutputCause, fault_line, odds};
 use text::TextCause;

@@ -6,7 +6,7 @@ ghost use Rattle.order.specs.Segments.{ends_of, known_of, count_of, end_at};
 use crate::cause::OrderCause;
 use arrayvec::ArrayVec;
 
-// Whether a segment is an open end, and what else is known of it.
+// Whether a segment is an open end, and what else is known of it, closed or not.
 #[derive(Clone, Copy, Default)]
 struct Segment<T> {
     is_open: bool,
@@ -41,6 +41,7 @@ impl<T: Copy + Default, const N: usize> Segments<T, N> {
         self.places.get(x as usize).map(|s| &s.known)
     }
 
+    // The same where the caller has found that x was given out: an order grows at an open end.
     pub(crate) fn known(&self, x: u16) -> &T
         requires { x < count_of self.now.places.items }
         ensures { result.now ≡ slice_index_or (known_of self.now.places.items) x result.now }
@@ -60,7 +61,7 @@ impl<T: Copy + Default, const N: usize> Segments<T, N> {
         x != y && self.is_end(x) && self.is_end(y)
     }
 
-    // The next number, if the ends are open and as many numbers as wanted are left below the ceiling.
+    // The next number, if the ends are `good` and as many numbers as wanted are left below the ceiling.
     pub(crate) fn admit(&self, good: bool, wanted: u16, ceiling: u16) -> Result<u16, OrderCause>
         requires { (count_of self.now.places.items ≤ ceiling) × (N ≤ 65535) }
         ensures { result ≡ admitted ceiling (count_of self.now.places.items) wanted good }
@@ -75,7 +76,7 @@ impl<T: Copy + Default, const N: usize> Segments<T, N> {
         Ok(count)
     }
 
-    // An open end no longer.
+    // An open end no longer. A number that was not given out is none.
     pub(crate) fn close(&mut self, x: u16)
         ensures ends { ends_of self.new.places.items ≡ slice_set (ends_of self.old.places.items) x false }
         ensures known { known_of self.new.places.items ≡ known_of self.old.places.items }

@@ -2,7 +2,7 @@
 ghost use Rattle.std.specs.Prelude.{◌≡◌};
 ghost use Rattle.output.specs.Causes.{cause_number};
 
-// Why the output layer turns a call down, with the number of the cause.
+// Why the output layer turns a call down.
 #[derive(Clone, Copy, PartialEq, Eq, Debug)]
 pub enum OutputCause {
     // a number outside the range for odds

@@ -1,5 +1,6 @@
 // The text of one line, which grows in memory of its own until it is whole, and is then laid into lent memory.
 // `write!` would not do: its contract says what it wrote where it succeeds, and not that it does where there is room.
+// `within` ties an answer to the memory that was lent, and the room of a text what is still to come to its capacity, so no type says either.
 ghost use Rattle.std.specs.Prelude.{◌≡◌, ◌+◌, ◌<◌, ◌≤◌, ◌++◌, length, IfOk, Ok};
 ghost use Rattle.arrayvec.specs.ArrayString.{array_string_len};
 ghost use Rattle.output.specs.Lines.{answer, memory_after};

@@ -31,6 +31,7 @@ fn is_smallest_first(steps: &[Step]) -> bool
     rest.iter().all(|z| first.thread < z.thread)
 }
 
+// Whether they do: no step, or two and more.
 pub(crate) fn make_circle(steps: &[Step]) -> bool
     ensures { result ≡ is_circle steps.now }
 {

@@ -19,7 +19,7 @@ pub struct Edge {
     pub segment: u16,
 }
 
-// Whether the lock is in the set.
+// Whether the lock is in the set. One shift: as a public call it would ask that the lock be small.
 fn in_set(lock: u8, set: u64) -> bool
     requires { lock ≤ 63 }
     ensures { result ≡ in_set lock set }

@@ -32,7 +32,7 @@ pub fn report<O: SegmentOrder>(
     found
 }
 
-// Two reports, and whether neither is refused and both list the same circles.
+// Two reports, and whether neither is refused and both list the same circles: that says more than the two.
 #[derive(Clone, Copy)]
 pub struct Comparison {
     pub old: Result<Answer, SearchCause>,

@@ -8,7 +8,7 @@ use crate::stack::Stack;
 use rows::{CircleRow, Edge, Step};
 use std::array;
 
-// The step that an edge gives to a circle. No `From`: that would stand in `rows`, whose edges know no chains.
+// The step that an edge gives to a circle. No `From`: that would stand in `rows`, and its definition stands above, in `recording`.
 fn step_of(edge: &Edge) -> Step
     ensures { result ≡ step edge.now }
 {

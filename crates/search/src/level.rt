@@ -17,7 +17,7 @@ pub(crate) struct Level {
     pub(crate) guards: u64,
 }
 
-// What stands where no edge was put. Not derived: the blank edge is not all zeros.
+// What stands where no edge was put. Not derived: that would want a second blank, a default, for edges.
 impl Default for Level {
     fn default() -> Level {
         Level {
@@ -44,7 +44,8 @@ impl Level {
         }
     }
 
-    // Whether the thread is one of the chain's. One shift, as in the sets of other crates: a call would be no shorter.
+    // Whether the thread is one of the chain's. One shift, as in the sets of other crates: as a public call it would ask
+    // that the thread be small.
     pub(crate) fn has_thread(&self, thread: u8) -> bool
         requires { thread ≤ 63 }
         ensures { result ≡ in_set thread self.now.threads }

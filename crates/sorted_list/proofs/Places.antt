@@ -1,8 +1,10 @@
 -- What the walk, the shift and the blanking make of the places.
-use Rattle.std.proofs.Common.{◌≡◌, ℕ, ◌+◌, ◌-◌, ◌<◌, ◌≤◌, eqb, List, [], ◌∷◌, ◌++◌, length, get_or, take, drop, set, replicate, sym, refl, ap, subst, ◌∙◌, append_assoc, arith}
-use Rattle.std.specs.List.{insert, FoldsTo, copy_within}
+use Rattle.std.proofs.Common.{◌≡◌, ℕ, ◌+◌, ◌-◌, ◌<◌, ◌≤◌, eqb, List, [], ◌∷◌, ◌++◌, length, get_or, take, drop, set, replicate, Some, None, Option, sym, refl, ap, subst, ◌∙◌, append_assoc, arith, Bor, MatchOption}
+use Rattle.std.specs.Option.{option_map}
+use Rattle.std.specs.List.{insert, HoldsAt, slice_get, FoldsTo, copy_within}
 use Rattle.std.proofs.lemmas.List.Edits.{length-insert}
 use Rattle.std.proofs.lemmas.List.{take_more, take-take, drop-take, take_at, drop_at, drop-drop, set_at, length-take-le, length-drop}
+use Rattle.std.proofs.lemmas.Option.{slice_get-get_or, slice_get_past}
 use Rattle.std.proofs.lemmas.Bool.{eq-eqb, ne_eqb}
 use Rattle.sorted_list.specs.Lists.{Held, memory, cut, none, entered}
 
@@ -10,6 +12,12 @@ module _ {X : Type 0} where
   both : {xs ys zs ws : List X} → xs ≡ ys → zs ≡ ws
       → ◌≡◌ {A = Held X} (record { records = xs; free = zs }) (record { records = ys; free = ws })
   both p q = cc
+
+  -- what `get` lends is the record at the place
+  pub nth_item : (xs : List X) (i : ℕ) (o : Option (Bor X))
+      → MatchOption o (length xs ≤ i) (λ x. (i < length xs) × HoldsAt (λ y. x.now ≡ y) xs i) → option_map (λ x. x.now) o ≡ slice_get xs i
+  nth_item xs i None h = sym (slice_get_past xs i h)
+  nth_item xs i (Some x) h = ap Some (h.1 x.now) ∙ sym (slice_get-get_or xs i x.now h.0)
 
   -- no place is free exactly where all are counted
   pub none_free : (m : List X) (n : ℕ) → n ≤ length m → eqb n (length m) ≡ none (drop n m)

@@ -11,6 +11,7 @@ use crate::index::Index;
 use rows::Edge;
 use sorted_list::SortedList;
 
+// Thread t and lock o are the two numbers of one event; a struct of them would be taken apart in each of these.
 impl Row {
     // The locks that the thread holds, as a set.
     fn guards(&self) -> u64
@@ -59,7 +60,7 @@ impl Row {
         let _ = edges.add(self.edge(t, o, h));
     }
 
-    // Adds an edge for each held lock. Here the project's form is a `for` with an index over the locks.
+    // Adds an edge for each held lock, in a `for` with an index over the locks (docs/DECISIONS.md).
     pub(crate) fn draw(&self, edges: &mut SortedList<'_, Edge>, t: Index, o: Index)
         ensures drawn { records_held edges.new
             ≡ drawn_into (records_held edges.old) (edges_from self.now t o) }

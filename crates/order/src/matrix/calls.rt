@@ -23,6 +23,8 @@ impl Matrix {
     }
 }
 
+// Its steps are those of `Clocks`, over what is known of a segment; what each has to keep of that is its own, so bodies that both
+// share would take these facts as arguments.
 impl SegmentOrder for Matrix {
     const CEILING: u16 = 256;
 
