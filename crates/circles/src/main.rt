@@ -19,7 +19,7 @@ fn print_line(rt: &HostRuntime, line: &[u8]) -> io::Result<()> {
     }
 }
 
-// A recording that is turned down, and one that cannot be read, end the program with status 1.
+// A recording that is turned down, and one that cannot be read, end the program with status 1: in two lines, as in `find_circles`.
 fn main(rt: HostRuntime) -> anyhow::Result<()> {
     let file = read_input(rt.alloc(), rt.stdin())?;
     match feed(file.as_slice()) {

@@ -44,6 +44,14 @@ impl Index {
         self.0
     }
 
+    // The place in a table.
+    pub(crate) fn place(self) -> usize
+        ensures value { result ≡ self }
+        ensures small { result ≤ 63 }
+    {
+        usize::from(self.0)
+    }
+
     // The set, in which i is bit i, that has this number alone.
     pub(crate) fn alone(self) -> u64
         ensures { result ≡ 2 ^ self }

@@ -27,7 +27,7 @@ impl Table {
     pub(crate) fn row(&self, t: Index) -> &Row
         ensures { result.now ≡ row_at (table_rows self.now) t }
     {
-        &self.rows[usize::from(t.get())]
+        &self.rows[t.place()]
     }
 
     // Whether some thread holds the lock.
@@ -42,14 +42,14 @@ impl Table {
         requires { holds (row_at (table_rows self.old) t) o ≡ false }
         ensures { table_rows self.new ≡ took (table_rows self.old) t o }
     {
-        self.rows[usize::from(t.get())].push(o);
+        self.rows[t.place()].push(o);
     }
 
     // Thread t gives lock o up.
     pub(crate) fn remove(&mut self, t: Index, o: Index)
         ensures { table_rows self.new ≡ gave_up (table_rows self.old) t o }
     {
-        self.rows[usize::from(t.get())].remove(o);
+        self.rows[t.place()].remove(o);
     }
 
     // Thread t goes on in segment n, and thread u begins in n + 1.
@@ -58,8 +58,8 @@ impl Table {
         ensures { table_rows self.new
             ≡ changed (λ r. in_state live (in_segment (n + 1) r)) u (changed (in_segment n) t (table_rows self.old)) }
     {
-        self.rows[usize::from(t.get())].go_on(n);
-        self.rows[usize::from(u.get())].begin(n + 1);
+        self.rows[t.place()].go_on(n);
+        self.rows[u.place()].begin(n + 1);
     }
 
     // Thread t goes on in segment n, and thread u has ended.
@@ -67,7 +67,7 @@ impl Table {
         ensures { table_rows self.new
             ≡ changed (in_state joined) u (changed (in_segment n) t (table_rows self.old)) }
     {
-        self.rows[usize::from(t.get())].go_on(n);
-        self.rows[usize::from(u.get())].end();
+        self.rows[t.place()].go_on(n);
+        self.rows[u.place()].end();
     }
 }

@@ -12,6 +12,7 @@ pub(crate) struct Bits {
 }
 
 impl Bits {
+    // `Default` fills the places of an `ArrayVec`; this says what the set holds.
     pub(crate) fn none() -> Bits
         ensures { (k : ℕ) → has result k ≡ false }
     {
@@ -22,7 +23,7 @@ impl Bits {
         ensures { result ≡ has self.now k }
     {
         self.words
-            .get((k / 64) as usize)
+            .get(usize::from(k / 64))
             .is_some_and(|word| (word >> (k % 64)) % 2 == 1)
     }
 
@@ -30,7 +31,7 @@ impl Bits {
         requires { k < 256 }
         ensures { (j : ℕ) → has self.new j ≡ (j == k || has self.old j) }
     {
-        self.words[(k / 64) as usize] |= 1 << (k % 64);
+        self.words[usize::from(k / 64)] |= 1 << (k % 64);
     }
 
     // The numbers that are in either set.

@@ -25,7 +25,7 @@ impl Clock {
         requires { run < 127 }
         ensures { result ≡ seen_of self.now run }
     {
-        self.seen[run as usize]
+        self.seen[usize::from(run)]
     }
 
     // One more segment of the run.
@@ -34,7 +34,7 @@ impl Clock {
         ensures run { self.new.run ≡ self.old.run }
         ensures seen { (q : ℕ) → seen_of self.new q ≡ (if nat_eq q run then seen_of self.old q + 1 else seen_of self.old q) }
     {
-        self.seen[run as usize] += 1;
+        self.seen[usize::from(run)] += 1;
     }
 
     // The same in another run.

@@ -8,7 +8,8 @@ use crate::segments::Segments;
 
 mod calls;
 
-// For each segment the set of those that precede it, which have smaller numbers.
+// For each segment the set of those that precede it, which have smaller numbers. The 256 is `CEILING`, too: an argument cannot be
+// computed from a constant.
 #[derive(Drop)]
 pub struct Matrix {
     segments: Segments<Bits, 256>,

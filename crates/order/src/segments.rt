@@ -38,7 +38,7 @@ impl<T: Copy + Default, const N: usize> Segments<T, N> {
     pub(crate) fn get(&self, x: u16) -> Option<&T>
         ensures { MatchOption result (count_of self.now.places.items ≤ x) (λ k. (x < count_of self.now.places.items) × (k.now ≡ slice_index_or (known_of self.now.places.items) x k.now)) }
     {
-        self.places.get(x as usize).map(|s| &s.known)
+        self.places.get(usize::from(x)).map(|s| &s.known)
     }
 
     // The same where the caller has found that x was given out: an order grows at an open end.
@@ -46,13 +46,13 @@ impl<T: Copy + Default, const N: usize> Segments<T, N> {
         requires { x < count_of self.now.places.items }
         ensures { result.now ≡ slice_index_or (known_of self.now.places.items) x result.now }
     {
-        &self.places[x as usize].known
+        &self.places[usize::from(x)].known
     }
 
     pub(crate) fn is_end(&self, x: u16) -> bool
         ensures { result ≡ end_at self.now.places.items x }
     {
-        self.places.get(x as usize).is_some_and(|s| s.is_open)
+        self.places.get(usize::from(x)).is_some_and(|s| s.is_open)
     }
 
     pub(crate) fn can_meet(&self, x: u16, y: u16) -> bool
@@ -81,7 +81,7 @@ impl<T: Copy + Default, const N: usize> Segments<T, N> {
         ensures ends { ends_of self.new.places.items ≡ slice_set (ends_of self.old.places.items) x false }
         ensures known { known_of self.new.places.items ≡ known_of self.old.places.items }
     {
-        if let Some(segment) = self.places.get_mut(x as usize) {
+        if let Some(segment) = self.places.get_mut(usize::from(x)) {
             segment.is_open = false;
         }
     }

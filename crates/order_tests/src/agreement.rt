@@ -1,4 +1,5 @@
-// Random lists of calls, on which both implementations and a plain list of arrows agree.
+// Random lists of calls, on which both implementations and a plain list of arrows agree. The two go side by side through all of it: a
+// struct of them would only be taken apart.
 use crate::arrows::{draw_call, past};
 use order::{Call, Clocks, Matrix, OrderCause, SegmentOrder, make};
 use std::alloc::AllocError;

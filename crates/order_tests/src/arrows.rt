@@ -19,8 +19,8 @@ pub(crate) fn draw_call(
 pub(crate) fn past(arrows: &[(u16, u16)], y: u16) -> [bool; 130] {
     let mut past = [false; 130];
     for (from, to) in arrows.iter().rev() {
-        if *to == y || past.get(*to as usize) == Some(&true) {
-            if let Some(mark) = past.get_mut(*from as usize) {
+        if *to == y || past.get(usize::from(*to)) == Some(&true) {
+            if let Some(mark) = past.get_mut(usize::from(*from)) {
                 *mark = true;
             }
         }

@@ -5,6 +5,7 @@ use rows::{CircleRow, Edge};
 use search::{compare, report};
 use sorted_list::{Record, SortedList};
 
+// As in `row_tests`: a crate that both use would be longer than the literal.
 fn edge(thread: u8, held: u8, wanted: u8, guards: u64, segment: u16) -> Edge {
     Edge {
         thread,

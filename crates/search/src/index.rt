@@ -62,7 +62,7 @@ impl Index {
         ensures size { self.new.size ≡ self.old.size }
     {
         if edge.is_edge() {
-            let lock = edge.held as usize;
+            let lock = usize::from(edge.held);
             self.blocks[lock] = with_block(self.blocks[lock], block);
         }
     }
@@ -73,7 +73,7 @@ impl Index {
         ensures { MatchOption result ((b : ℕ) → block ≤ b → b < 64 → mark self.now lock b ≡ false)
             (λ next. (block ≤ next) × (next < 64) × ((b : ℕ) → block ≤ b → b < next → mark self.now lock b ≡ false)) }
     {
-        let later = self.blocks[lock as usize].checked_shr(block as u32)?;
+        let later = self.blocks[usize::from(lock)].checked_shr(block as u32)?;
         let next = block + later.trailing_zeros() as usize;
         (next < 64).then_some(next)
     }

@@ -9,10 +9,10 @@ returns-then-is_edge c =
     let e = c.args.edge.now in
     let h : e.held < length ws = search rules in
     record {
-      marks = λ lock b.
-          ap (λ w. in_set b (get_or (set ws e.held w) lock 0)) c.with_block.ensures
+      marks = rw c.from-lock.ensures (λ lock b.
+          ap (λ w. in_set b (get_or (set ws e.held w) lock 0)) (rw c.from-lock.ensures at c.with_block.ensures)
           ∙ marked ws e.held c.args.block lock b h
           ∙ ap (λ x. (x && eqb b c.args.block) || in_set b (get_or ws lock 0))
-          (sym (and_true (eqb lock e.held) (is_edge e) (sym c.if-is_edge.ensures.value)));
+          (sym (and_true (eqb lock e.held) (is_edge e) (sym c.if-is_edge.ensures.value))));
       size = refl;
     }
