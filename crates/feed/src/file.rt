@@ -23,7 +23,8 @@ fn event_at(line: u32, bytes: &[u8]) -> Result<Event, Fault>
     })
 }
 
-// Reads every line, up to the first fault, and answers how many there are.
+// Reads every line, up to the first fault, and answers how many there are. `feeding` has this loop over another step; why it is not
+// shared stands there.
 fn feed_lines(file: &[u8]) -> Result<u32, Fault>
     requires { length file.now ≤ 60000 }
     ensures { result ≡ counted (events_from 1 (lines file.now)) }

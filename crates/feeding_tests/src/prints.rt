@@ -1,4 +1,4 @@
-// Odds, and printed lines.
+// Odds, and printed lines. `line_tests` has the odds and the line of a text fault too (docs/DECISIONS.md).
 use feed::{Cause, Fault};
 use output::{OutputCause, answer_line, circle_line, fault_line, odds};
 use rows::{Circle, CircleRow, Step};

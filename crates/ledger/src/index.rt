@@ -52,7 +52,8 @@ impl Index {
         usize::from(self.0)
     }
 
-    // The set, in which i is bit i, that has this number alone.
+    // The set, in which i is bit i, that has this number alone. One shift, as in the sets of other crates, where nothing says that a number is
+    // small.
     pub(crate) fn alone(self) -> u64
         ensures { result ≡ 2 ^ self }
     {

@@ -1,4 +1,4 @@
-// Odds, and the line for a fault. `feeding_tests` has these too, beside its faults of other layers: no test goes.
+// Odds, and the line for a fault. `feeding_tests` has these too (docs/DECISIONS.md).
 use feed::{Cause, Fault};
 use output::{OutputCause, fault_line, odds};
 use text::TextCause;

@@ -4,8 +4,8 @@ ghost use Rattle.order.specs.Bits.{has};
 
 use std::array;
 
-// Number k is bit k % 64 of word k / 64. A test of a bit is one shift, here and in other crates: as a public call it would ask that the
-// number be small.
+// Number k is bit k % 64 of word k / 64. A test or a setting of a bit is one shift, here and in other crates: as a public call
+// it would ask that the number be small.
 #[derive(Clone, Copy, Default)]
 pub(crate) struct Bits {
     words: [u64; 4],

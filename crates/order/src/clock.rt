@@ -11,6 +11,7 @@ pub(crate) struct Clock {
 }
 
 impl Clock {
+    // `Default` fills the places of an `ArrayVec`; this says what the clock has seen.
     pub(crate) fn none() -> Clock
         ensures run { result.run ≡ 0 }
         ensures seen { result.seen ≡ replicate 127 0 }

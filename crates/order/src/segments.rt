@@ -6,7 +6,7 @@ ghost use Rattle.order.specs.Segments.{ends_of, known_of, count_of, end_at};
 use crate::cause::OrderCause;
 use arrayvec::ArrayVec;
 
-// Whether a segment is an open end, and what else is known of it, closed or not.
+// Whether a segment is an open end, and what else is known of it, closed or not; so it is no `Option`.
 #[derive(Clone, Copy, Default)]
 struct Segment<T> {
     is_open: bool,
@@ -34,7 +34,7 @@ impl<T: Copy + Default, const N: usize> Segments<T, N> {
         segments
     }
 
-    // What is known of a segment that was given out.
+    // What is known of a segment, if it was given out.
     pub(crate) fn get(&self, x: u16) -> Option<&T>
         ensures { MatchOption result (count_of self.now.places.items ≤ x) (λ k. (x < count_of self.now.places.items) × (k.now ≡ slice_index_or (known_of self.now.places.items) x k.now)) }
     {

@@ -25,7 +25,8 @@ pub(crate) fn put_labelled<I: Integer>(text: &mut Text, label: &str, n: I)
     text.push_str(Buffer::new().format(n));
 }
 
-// The newline behind the text, and zeros behind that, up to the end of the memory.
+// The newline behind the text, and zeros behind that, up to the end of the memory. Answers the length: the memory is the caller's, so its
+// length is not the line's.
 pub(crate) fn put_line(mut text: Text, line: &mut [u8]) -> Result<usize, OutputCause>
     requires { array_string_len text < 1024 }
     ensures answer { result ≡ answer (Ok (ended text.bytes)) line.old }

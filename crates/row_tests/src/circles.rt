@@ -70,6 +70,7 @@ fn rows_ascend_by_count_then_by_steps(rt: HostRuntime) {
     for r in ascending.iter().rev() {
         assert!(rt; list.add(*r).is_ok());
     }
+    // by place, since `at` is tested too
     for (i, r) in ascending.iter().enumerate() {
         assert_eq!(rt; list.at(i), Some(*r));
     }

@@ -50,6 +50,7 @@ fn edges_ascend_by_all_places(rt: HostRuntime) {
     }
     assert_eq!(rt; list.add(first), Ok(()));
     assert_eq!(rt; list.add(Edge::blank()), Err(ListCause::Full));
+    // by place, since `at` is tested too
     for (i, e) in ascending.iter().enumerate() {
         assert_eq!(rt; list.at(i), Some(*e));
     }

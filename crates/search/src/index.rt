@@ -22,7 +22,7 @@ fn holds(edge: &Edge, lock: u8) -> bool
     lock == edge.held && edge.is_edge()
 }
 
-// The blocks of a word and one more.
+// The blocks of a word and one more. One shift, as in the sets of other crates.
 fn with_block(word: u64, block: usize) -> u64
     requires { block < 64 }
     ensures { result ≡ bit_or word (2 ^ block) }
@@ -78,7 +78,7 @@ impl Index {
         (next < 64).then_some(next)
     }
 
-    // The first place from a place on whose row is an edge that holds the lock.
+    // The first place from a place on whose row is an edge that holds the lock. `Graph` has `Indexes` as a fact of its own.
     pub(crate) fn next_holding(&self, rows: &[Edge], lock: u8, from: usize) -> Option<usize>
         requires { (lock ≤ 63) × (Indexes rows.now self.now) }
         ensures { result ≡ first_from (holding lock) rows.now from }

@@ -30,8 +30,8 @@ impl Default for Level {
 }
 
 impl Level {
-    // The edge at a place, behind a chain with these threads and guards: a level is place and edge with what was seen. Edges are plain
-    // rows, which lie in memory as they are, so each caller shows that the thread is at most 63.
+    // The edge at a place, behind a chain with these threads and guards: a level is place and edge with what was seen, so a pair of the
+    // two would be taken apart here. Edges are plain rows, which lie in memory as they are, so each caller shows that the thread is at most 63.
     pub(crate) fn after(threads: u64, guards: u64, place: usize, edge: Edge) -> Level
         requires { edge.thread ≤ 63 }
         ensures { result ≡ level_after threads guards place edge }

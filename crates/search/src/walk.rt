@@ -42,7 +42,8 @@ impl<'a, O: SegmentOrder> Graph<'a, O> {
 
 // `Walks` ties a stack to a graph, so it stands in clauses and in neither type.
 impl Stack {
-    // The first place from a place on whose edge may go on the chain, or begin one. A loop, since each turn asks the index anew.
+    // The first place from a place on whose edge may go on the chain, or begin one. A loop: `successors` would ask the
+    // index for the place after this one before it is known whether this one fits.
     fn next_fitting<O: SegmentOrder>(&self, graph: &Graph<'_, O>, from: usize) -> Option<usize>
         requires { Walks graph.now.rows.now (O.meaning graph.now.order.now).before self.now }
         ensures { result ≡ first_from (may_follow (O.meaning graph.now.order.now).before (edges self.now)) graph.now.rows.now from }

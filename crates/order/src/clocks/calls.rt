@@ -25,6 +25,7 @@ impl Clocks {
     }
 }
 
+// Its steps are those of `Matrix`; why they are not shared stands there.
 impl SegmentOrder for Clocks {
     const CEILING: u16 = 127;
 
