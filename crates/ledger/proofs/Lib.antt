@@ -2,3 +2,4 @@ pub mod Locks
 pub mod Guards
 pub mod Drawing
 pub mod Recorded
+pub mod Tables

@@ -78,3 +78,6 @@ tidy_few xs o h new low =
     let all = tidy_first o xs low new h in
     few 64 (o ∷ xs) (All-weaker (λ l. l ≤ 63) (λ l. l < 64) (λ l k. omega arith) (o ∷ xs) (tidy_small (o ∷ xs) all))
     (tidy_apart (o ∷ xs) all)
+
+pub tidy_count : (xs : List ℕ) → tidy xs ≡ true → length xs ≤ 64
+tidy_count xs h = few 64 xs (All-weaker (λ l. l ≤ 63) (λ l. l < 64) (λ l k. omega arith) xs (tidy_small xs h)) (tidy_apart xs h)

@@ -1,5 +1,6 @@
 // What accepted events do.
 use crate::bench::{enter_all, refusal};
+use crate::kept::is_first_small;
 use ledger::Ledger;
 use order::{Clocks, Matrix, SegmentOrder};
 use rows::{Edge, Event, Life};
@@ -67,6 +68,17 @@ fn a_release_closes_the_gap(rt: HostRuntime) {
     assert_eq!(rt; ledger.held(0, 1), Some(3));
     assert_eq!(rt; ledger.held(0, 2), None);
     assert!(rt; ledger.holds(0, 3) && !ledger.holds(0, 2));
+}
+
+#[test]
+fn a_held_lock_is_at_most_63(rt: HostRuntime) {
+    let mut places = [Edge::blank(); 1];
+    let mut edges = SortedList::open(&mut places);
+    let mut ledger = Ledger::fresh();
+    assert!(rt; is_first_small(&ledger));
+    assert_eq!(rt; ledger.lock(&mut edges, 0, 63), Ok(()));
+    assert_eq!(rt; ledger.held(0, 0), Some(63));
+    assert!(rt; is_first_small(&ledger));
 }
 
 #[test]

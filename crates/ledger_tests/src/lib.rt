@@ -5,5 +5,8 @@
 mod accepted;
 #[cfg(test)]
 mod bench;
+mod kept;
 #[cfg(test)]
 mod refused;
+
+pub use kept::is_first_small;
