@@ -2,7 +2,7 @@
 use order::{Clocks, Matrix, SegmentOrder};
 use recording::{Answer, SearchCause};
 use rows::{CircleRow, Edge};
-use search::{compare, report};
+use search::{compare, report, report_rows};
 use sorted_list::{Record, SortedList};
 
 // As in `row_tests`: a crate that both use would be longer than the literal.
@@ -44,6 +44,20 @@ fn parallel_edges_close_and_ordered_ones_do_not(rt: HostRuntime) {
     assert_eq!(rt; circles.count(), 1);
     assert_eq!(rt; two_edges::<Clocks>(0, 10, &mut circles), answer(0, 2));
     assert_eq!(rt; circles.count(), 0);
+}
+
+// Later rows may come first, stand twice, and be no edges.
+#[test]
+fn rows_need_not_ascend(rt: HostRuntime) {
+    let last = edge(1, 2, 1, 4, 0);
+    let rows = [last, edge(2, 1, 2, 0, 0), last, edge(0, 1, 2, 2, 0)];
+    let mut places = [CircleRow::blank(); 1];
+    let mut circles = SortedList::open(&mut places);
+    assert_eq!(rt;
+        report_rows(&rows, &Matrix::fresh(), 10, &mut circles),
+        answer(1, 5)
+    );
+    assert_eq!(rt; circles.count(), 1);
 }
 
 #[test]

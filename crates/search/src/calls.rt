@@ -10,8 +10,28 @@ use recording::{Answer, SearchCause};
 use rows::{CircleRow, Edge};
 use sorted_list::SortedList;
 
-// Fills the list with the circles of closed chains, whatever it held before, and answers how many circles and chains there are.
-// A refused report leaves the list empty, every place blank.
+// Fills the list with the circles of closed chains of any rows, which may be no edges and need not ascend, whatever the list held before,
+// and answers how many circles and chains there are. A refused report leaves the list empty, every place blank.
+pub fn report_rows<O: SegmentOrder>(
+    rows: &[Edge],
+    order: &O,
+    budget: u32,
+    circles: &mut SortedList<'_, CircleRow>,
+) -> Result<Answer, SearchCause>
+    ensures answers { result ≡ reply rows.now (O.meaning order.now).before budget
+        (length circles.old.places.now) }
+    ensures holds { held circles.new ≡ reported rows.now
+        (O.meaning order.now).before budget (length circles.old.places.now) }
+    ensures lent { circles.new.places.ghost_name ≡ circles.old.places.ghost_name }
+{
+    let found = walk_chains(rows, order, budget, circles);
+    if found.is_err() {
+        circles.clear();
+    }
+    found
+}
+
+// The same of an edge list, with what it says of the recordings behind the list and the order.
 pub fn report<O: SegmentOrder>(
     edges: &SortedList<'_, Edge>,
     order: &O,
@@ -25,11 +45,7 @@ pub fn report<O: SegmentOrder>(
     ensures lent { circles.new.places.ghost_name ≡ circles.old.places.ghost_name }
     ensures stops { Promised (held edges.now) (O.meaning order.now) result (held circles.new).records }
 {
-    let found = walk_chains(edges.records(), order, budget, circles);
-    if found.is_err() {
-        circles.clear();
-    }
-    found
+    report_rows(edges.records(), order, budget, circles)
 }
 
 // Two reports, and whether neither is refused and both list the same circles: that says more than the two.

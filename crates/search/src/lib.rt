@@ -10,4 +10,4 @@ mod stack;
 mod tally;
 mod walk;
 
-pub use calls::{Comparison, compare, report};
+pub use calls::{Comparison, compare, report, report_rows};
