@@ -4,14 +4,14 @@ use Rattle.std.specs.Prelude.{◌≡◌, ℕ, List, [], ◌∷◌, map, refl}
 use Rattle.std.specs.declared.cmp.Ordering.TheVariants.{Less, Equal, Greater}
 use Rattle.std.specs.declared.cmp.Ordering.{Ordering}
 use Rattle.std.specs.Cmp.Derive.Mapped.{lex_map}
-use Rattle.std.specs.Cmp.Lexicographic.{slice_cmp}
-use Rattle.std.specs.Ordering.{ordering_then, nat_cmp}
+use Rattle.std.specs.Cmp.Lexicographic.{slice_cmp, bytes_decides, texts_ties}
+use Rattle.std.specs.Ordering.{ordering_then, nat_cmp, is_eq}
 use Rattle.std.proofs.Common.{sym, ap, ◌∙◌, arith}
 use Rattle.rows.specs.Orders.{step_places, rank_step, rank_row}
 use Rattle.rows.specs.declared.row.CircleRow.{CircleRow}
 use Rattle.rows.specs.declared.step.Step.{Step}
 
-then_equal : (o : Ordering) → o ≡ ordering_then o Equal
+pub then_equal : (o : Ordering) → o ≡ ordering_then o Equal
 then_equal Less = refl
 then_equal Equal = refl
 then_equal Greater = refl
@@ -44,3 +44,23 @@ lex_same {R = R} same (x ∷ xs) (y ∷ ys) e = go (R x y) refl e (lex_same {R =
     go Less f g ih = let z : ◌≡◌ {A = ℕ} 0 1 = cc in absurd (omega arith)
     go Equal f g ih = λ i. same x y f i ∷ ih g i
     go Greater f g ih = let z : ◌≡◌ {A = ℕ} 0 1 = cc in absurd (omega arith)
+
+pub numbers_same : (xs ys : List ℕ) → slice_cmp nat_cmp xs ys ≡ Equal → xs ≡ ys
+numbers_same xs ys e = (bytes_decides xs ys).0 (texts_ties xs ys ∙ ap is_eq e)
+
+-- what has the same places is the same
+pub step_same : (s z : Step) → step_places s ≡ step_places z → s ≡ z
+step_same s z e =
+    let t : s.thread ≡ z.thread = cc in
+    let l : s.held ≡ z.held = cc in
+    let w : s.wanted ≡ z.wanted = cc in
+    λ i. record { thread = t i; held = l i; wanted = w i }
+
+pub steps_same : (xs ys : List Step) → map step_places xs ≡ map step_places ys → xs ≡ ys
+steps_same [] [] e = refl
+steps_same [] (y ∷ ys) e = let z : ◌≡◌ {A = ℕ} 0 1 = cc in absurd (omega arith)
+steps_same (x ∷ xs) [] e = let z : ◌≡◌ {A = ℕ} 0 1 = cc in absurd (omega arith)
+steps_same (x ∷ xs) (y ∷ ys) e =
+    let s = step_same x y cc in
+    let more = steps_same xs ys cc in
+    λ i. s i ∷ more i

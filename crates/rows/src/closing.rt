@@ -19,7 +19,8 @@ fn threads_differ(steps: &[Step]) -> bool
     let Some((first, rest)) = steps.split_first() else {
         return true;
     };
-    rest.iter().all(|z| first.thread != z.thread) && threads_differ(rest)
+    let thread = first.thread;
+    rest.iter().all(|z| thread != z.thread) && threads_differ(rest)
 }
 
 fn is_smallest_first(steps: &[Step]) -> bool

@@ -147,7 +147,7 @@ at_letter (b ∷ bs) h =
     }
 
 -- a fault is at the leftmost wrong byte
-reading_leftmost : (line : List ℕ) (f : LineFault) → reading line ≡ Err f → Leftmost line f.column
+pub reading_leftmost : (line : List ℕ) (f : LineFault) → reading line ≡ Err f → Leftmost line f.column
 reading_leftmost [] f h =
     subst (Leftmost []) (sym (same_column 1 Letter f refl h)) (at_letter [] (λ b xs e rest. let z : ◌≡◌ {A = ℕ} 0 1 = cc in absurd (omega arith)))
 reading_leftmost (b ∷ bs) f h =
