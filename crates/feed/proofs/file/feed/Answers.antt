@@ -1,11 +1,11 @@
-use Rattle.std.proofs.Common.{sym, ◌∙◌, inr}
+use Rattle.std.proofs.Common.{◌≤◌, length, sym, ◌∙◌, inr, arith}
 use Rattle.feed.proofs.Fed.{fed_events, fed_said, fed_stops}
 use Rattle.feed.proofs.file.feed.Goals as goal
 
 pub returns : goal.returns
 returns c =
     let file = c.args.file.now in
-    let short = c.if-file-gt-LONGEST.false in
+    let short : length file ≤ 60000 = omega (arith, c.if-file-gt-LONGEST.false) in
     let is = c.feed_lines.ensures in
     record {
       value = is ∙ fed_events file short;
